@@ -1,0 +1,5 @@
+pub mod Parity
+pub mod Format
+pub mod Frame
+pub mod Transmitter
+pub mod Receiver
