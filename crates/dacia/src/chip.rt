@@ -2,6 +2,7 @@
 ghost use mathlib.Core.Path.{_≡_};
 ghost use Rattle.channel.specs.Channel.{txdOf, irqOf};
 ghost use Rattle.dacia.specs.Chip.{channelOf, poweredChip, firstReset, chipReset, readEnded, afterReadEnded, writeEnded, afterWriteEnded, modemOn, chipCycled, readOnce, afterReadOnce, writeOnce, afterWriteOnce};
+ghost use Rattle.dacia.specs.Separation.{Separated};
 use crate::access::ReadAccess;
 use crate::access::WriteAccess;
 use channel::channel::Channel;
@@ -52,9 +53,10 @@ impl PoweredChip {
         }
     }
 
-    // The first reset, which gives the chip that allows everything else.
+    // The first reset, which gives the chip that allows everything else. From here on nothing done to one channel shows on the other.
     pub fn reset(self) -> Chip
         ensures is { λ r. ⌜ r ≡ firstReset self ⌝ }
+        ensures separation { λ r. ⌜ Separated r ⌝ }
     {
         let PoweredChip { one, two } = self;
         let mut chip = Chip { one, two };
