@@ -101,7 +101,7 @@ txdOf c = level (c .sender .transmitter)
 abbrev pub irqOf : Channel → Bool
 irqOf c = eqb (c .interrupts .requests) 0
 
--- the sources whose request a rising bit raises: TDRE's only as the transmitter takes a word
+-- the sources whose request a rising bit raises: all in a tick of the transmitter, in which TDRE rises as a word is taken, elsewhere all but TDRE
 abbrev pub allSources : ℕ
 allSources = 0x7f
 
@@ -165,7 +165,7 @@ format c = formatOf (c .control .cr) (c .control .fr)
 abbrev pub heardOn : Bool → Channel → Report × Channel
 heardOn l c =
     let t = heardBy (format c) (c .control .cdr) (bit (c .control .acr) 0) l (c .receiving) in
-    (t .0, following allSources c (withReceiving (t .1) c))
+    (t .0, following allButTdre c (withReceiving (t .1) c))
 
 -- a tick of the transmitter
 abbrev pub sentOn : Channel → Channel

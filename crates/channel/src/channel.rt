@@ -257,7 +257,7 @@ impl Channel {
         let show_bit = is_set(self.control.acr, 0);
         let report = self.receiving.tick(format, cdr, show_bit, level);
         let after = self.flags(false);
-        self.interrupts.follow(ALL, before, after);
+        self.interrupts.follow(ALL_BUT_TDRE, before, after);
         report
     }
 

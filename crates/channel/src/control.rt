@@ -20,7 +20,23 @@ pub struct Control {
 }
 
 // The cycles from tick to tick for the rate codes 0 to 14.
-const DIVISORS: [u16; 15] = [4608, 2110, 1712, 1536, 768, 384, 192, 128, 96, 64, 48, 32, 24, 12, 6];
+const DIVISORS: [u16; 15] = [
+    4608,
+    2110,
+    1712,
+    1536,
+    768,
+    384,
+    192,
+    128,
+    96,
+    64,
+    48,
+    32,
+    24,
+    12,
+    6,
+];
 
 // The cycles from tick to tick; none with rate code 15, whose ticks are marked from outside.
 fn divisor(code: u8) -> Option<u16>

@@ -11,8 +11,10 @@ pub struct Interrupts {
     pub(crate) requests: u8,
 }
 
-// The sources whose request a rise of their ISR bit raises: all of them as the transmitter takes a word, else all but TDRE.
+// The sources whose request a rise of their ISR bit raises: all in a tick of the transmitter, in which TDRE rises as a word is taken,
+// elsewhere all but TDRE.
 pub(crate) const ALL: u8 = 0x7f;
+
 pub(crate) const ALL_BUT_TDRE: u8 = 0x3f;
 
 impl Interrupts {

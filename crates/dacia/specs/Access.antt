@@ -44,3 +44,13 @@ readOpened s = readAt (placeAt s)
 
 abbrev pub writeOpened : ℕ → Result WriteAccess Refusal
 writeOpened s = writeAt (placeAt s)
+
+-- the refusals of an access: 1 above select 7, 2 for reading at 2 and 6; 0 for none
+abbrev pub opensBy : ℕ → ℕ
+opensBy s = cond (ltb 7 s) 1 0
+
+abbrev pub readsBy : Register → ℕ
+readsBy g = cond (eqb (registerNumber g) 2) 2 0
+
+abbrev pub readBy : ℕ → ℕ
+readBy s = cond (ltb 7 s) 1 (cond (eqb (s % 4) 2) 2 0)

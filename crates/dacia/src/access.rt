@@ -1,9 +1,8 @@
 // Accesses: one is opened at a select, and has to be spent by ending it on a chip.
 ghost use mathlib.Core.Path.{_≡_};
-ghost use Prim.Native.Nat.{_%_};
 ghost use Rattle.std.specs.declared.result.Result.the-variants.{Ok, Err};
-ghost use Rattle.terms.specs.Refusal.{refusalNumber};
-ghost use Rattle.dacia.specs.Access.{channelAt, registerAt, placeAt, selectOf, readOpened, writeOpened};
+ghost use Rattle.terms.specs.Refusal.{refusalNumber, refusedBy};
+ghost use Rattle.dacia.specs.Access.{registerAt, placeAt, selectOf, readOpened, writeOpened, opensBy};
 use terms::channel_id::ChannelId;
 use terms::refusal::Refusal;
 use terms::register::Register;
@@ -57,7 +56,8 @@ fn place_at(select: u8) -> Result<Place, Refusal>
 impl ReadAccess {
     // Opens a read; a select above 7 opens nothing.
     pub fn open(select: u8) -> Result<ReadAccess, Refusal>
-        ensures { λ r. ⌜ r ≡ readOpened select ⌝ }
+        ensures is { λ r. ⌜ r ≡ readOpened select ⌝ }
+        ensures refusals { λ r. ⌜ refusedBy r ≡ opensBy select ⌝ }
     {
         let place = place_at(select)?;
         Ok(ReadAccess { place })
@@ -67,7 +67,8 @@ impl ReadAccess {
 impl WriteAccess {
     // Opens a write; a select above 7 opens nothing.
     pub fn open(select: u8) -> Result<WriteAccess, Refusal>
-        ensures { λ r. ⌜ r ≡ writeOpened select ⌝ }
+        ensures is { λ r. ⌜ r ≡ writeOpened select ⌝ }
+        ensures refusals { λ r. ⌜ refusedBy r ≡ opensBy select ⌝ }
     {
         let place = place_at(select)?;
         Ok(WriteAccess { place })

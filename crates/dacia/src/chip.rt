@@ -1,6 +1,8 @@
 // The chip: two channels.
 ghost use mathlib.Core.Path.{_≡_};
+ghost use Rattle.terms.specs.Refusal.{refusedBy};
 ghost use Rattle.channel.specs.Channel.{txdOf, irqOf};
+ghost use Rattle.dacia.specs.Access.{opensBy, readsBy, readBy};
 ghost use Rattle.dacia.specs.Chip.{channelOf, poweredChip, firstReset, chipReset, readEnded, afterReadEnded, writeEnded, afterWriteEnded, modemOn, chipCycled, readOnce, afterReadOnce, writeOnce, afterWriteOnce};
 ghost use Rattle.dacia.specs.Separation.{Separated};
 use crate::access::ReadAccess;
@@ -53,15 +55,21 @@ impl PoweredChip {
         }
     }
 
-    // The first reset, which gives the chip that allows everything else. From here on nothing done to one channel shows on the other.
-    pub fn reset(self) -> Chip
-        ensures is { λ r. ⌜ r ≡ firstReset self ⌝ }
-        ensures separation { λ r. ⌜ Separated r ⌝ }
+    fn first_reset(self) -> Chip
+        ensures { λ r. ⌜ r ≡ firstReset self ⌝ }
     {
         let PoweredChip { one, two } = self;
         let mut chip = Chip { one, two };
         chip.reset();
         chip
+    }
+
+    // The first reset, which gives the chip that allows everything else. From here on nothing done to one channel shows on the other.
+    pub fn reset(self) -> Chip
+        ensures is { λ r. ⌜ r ≡ firstReset self ⌝ }
+        ensures separation { λ r. ⌜ Separated r ⌝ }
+    {
+        self.first_reset()
     }
 }
 
@@ -77,6 +85,7 @@ impl Chip {
     pub fn end_read(&mut self, access: ReadAccess) -> Result<Reading, Refusal>
         ensures answers { λ r. ⌜ r ≡ readEnded access (now (self .entry)) ⌝ }
         ensures leaves { λ _. ⌜ now (self .exit) ≡ afterReadEnded access (now (self .entry)) ⌝ }
+        ensures refusals { λ r. ⌜ refusedBy r ≡ readsBy (access .place .register) ⌝ }
     {
         let ReadAccess { place } = access;
         match place.channel {
@@ -101,6 +110,7 @@ impl Chip {
     pub fn read(&mut self, select: u8) -> Result<Reading, Refusal>
         ensures answers { λ r. ⌜ r ≡ readOnce select (now (self .entry)) ⌝ }
         ensures leaves { λ _. ⌜ now (self .exit) ≡ afterReadOnce select (now (self .entry)) ⌝ }
+        ensures refusals { λ r. ⌜ refusedBy r ≡ readBy select ⌝ }
     {
         let access = ReadAccess::open(select)?;
         self.end_read(access)
@@ -110,6 +120,7 @@ impl Chip {
     pub fn write(&mut self, select: u8, byte: u8) -> Result<WriteNote, Refusal>
         ensures answers { λ r. ⌜ r ≡ writeOnce select (now (self .entry)) ⌝ }
         ensures leaves { λ _. ⌜ now (self .exit) ≡ afterWriteOnce select byte (now (self .entry)) ⌝ }
+        ensures refusals { λ r. ⌜ refusedBy r ≡ opensBy select ⌝ }
     {
         let access = WriteAccess::open(select)?;
         Ok(self.end_write(access, byte))

@@ -11,10 +11,17 @@ pub struct FirstBytes {
     pub csr: u8,
 }
 
-// Resets a chip and reads ISR1 and CSR1 of it; its contract has the other figures too.
+// Its contract has the other figures too.
 pub fn first_bytes() -> Result<FirstBytes, Refusal>
     ensures bytes { λ r. ⌜ r ≡ firstBytes ⌝ }
     ensures figures { λ _. ⌜ Figures ⌝ }
+{
+    read_after_reset()
+}
+
+// Resets a chip and reads ISR1 and CSR1 of it.
+fn read_after_reset() -> Result<FirstBytes, Refusal>
+    ensures { λ r. ⌜ r ≡ firstBytes ⌝ }
 {
     let mut chip = PoweredChip::power_on().reset();
     let isr = chip.read(0)?.byte;

@@ -114,9 +114,9 @@ above-word (Some q) n w m h =
     let f : ℕ = (2 * w + checkBit p w * 2 ^ (1 + n)) + m * 2 ^ (1 + n + 1) in
     let low = low-part n 1 w (checkBit p w) h (checkBit-low p w) m in
     let e : bit f (1 + n) ≡ eqb (checkBit p w % 2) 1 =
-        sym (bit-low f (1 + n + 1) (1 + n) (omega arith))
-        ∙ ap (λ z. bit z (1 + n)) low
-        ∙ ap (λ z. eqb (z % 2) 1) (parity-part n 1 w (checkBit p w) h (checkBit-low p w)) in
+    sym (bit-low f (1 + n + 1) (1 + n) (omega arith))
+    ∙ ap (λ z. bit z (1 + n)) low
+    ∙ ap (λ z. eqb (z % 2) 1) (parity-part n 1 w (checkBit p w) h (checkBit-low p w)) in
     subst (ParityLaw q w) (sym e) (parity-law q w)
 
 pub frame-law : (x : Format) (w : ℕ) → FrameLaw x w (frame x w)
@@ -133,8 +133,8 @@ frame-law x w =
     let low : f % 2 ^ (1 + n + p) ≡ 2 * v + q * 2 ^ (1 + n) = low-part n p v q v-low q-low m in
     let high : f / 2 ^ (1 + n + p) ≡ m = high-part n p v q v-low q-low m in
     let low-bit : (k : ℕ) → k < 1 + n → bit f k ≡ bit (2 * v) k = λ k h.
-        sym (bit-low f (1 + n + p) k (omega arith)) ∙ ap (λ z. bit z k) low
-        ∙ sym (bit-low (2 * v + q * 2 ^ (1 + n)) (1 + n) k h) ∙ ap (λ z. bit z k) (word-part n p v q v-low q-low) in
+    sym (bit-low f (1 + n + p) k (omega arith)) ∙ ap (λ z. bit z k) low
+    ∙ sym (bit-low (2 * v + q * 2 ^ (1 + n)) (1 + n) k h) ∙ ap (λ z. bit z k) (word-part n p v q v-low q-low) in
     let stop = stop-bounds (x .stops) in
     let start : 2 * v / 2 ^ 0 % 2 ≡ 0 = omega (arith, div-one (2 * v)) in
     record {
@@ -143,7 +143,7 @@ frame-law x w =
       parity-bit = above-word (x .parity) n v m v-low;
       stops-high = λ j h.
           let e : f / 2 ^ (stopAt x + j) % 2 ≡ 1 =
-              ap (λ z. z % 2) (sym (shr-shr f (stopAt x) j) ∙ ap (λ z. z / 2 ^ j) high) ∙ ones-bit s j (stop .0) (stop .1) h in
+          ap (λ z. z % 2) (sym (shr-shr f (stopAt x) j) ∙ ap (λ z. z / 2 ^ j) high) ∙ ones-bit s j (stop .0) (stop .1) h in
           ap (λ z. eqb z 1) e;
       nothing-above = below-end n p v q v-low q-low s m (ones-low s);
     }
@@ -156,10 +156,10 @@ frame-masks x v h =
     by-masks (dataBits (x .bits)) (parityBits (x .parity)) v (checkBit (x .parity) v) h (checkBit-low (x .parity) v) (stopBits (x .stops)) (2 ^ stopBits (x .stops) - 1)
     (ones-low (stopBits (x .stops))) (data-bounds (x .bits) .1) (parity-bounds (x .parity)) (stop-bounds (x .stops) .1)
 
--- the same over the parts as the code has them: the word v, the parity bit q, and the counts of stop bits, data bits and bits before the stop bits
-pub masked : (x : Format) (w v q s n k : ℕ) → v ≡ cut x w → q ≡ checkBit (x .parity) v → s ≡ stopBits (x .stops) → n ≡ dataBits (x .bits) → k ≡ stopAt x →
-    bitOr (bitOr ((v * 2) % 65536) ((q * 2 ^ (1 + n)) % 65536)) ((((1 * 2 ^ s) % 65536 - 1) * 2 ^ k) % 65536) ≡ frame x w
-masked x w v q s n k ev eq es en ek =
+-- the same over the parts as the code has them: the parity bit q, and the counts of stop bits, data bits and bits before the stop bits
+pub masked : (x : Format) (v q s n k : ℕ) → v < 2 ^ dataBits (x .bits) → q ≡ checkBit (x .parity) v → s ≡ stopBits (x .stops) → n ≡ dataBits (x .bits) → k ≡ stopAt x →
+    bitOr (bitOr ((v * 2) % 65536) ((q * 2 ^ (1 + n)) % 65536)) ((((1 * 2 ^ s) % 65536 - 1) * 2 ^ k) % 65536) ≡ packed x v
+masked x v q s n k low eq es en ek =
     let few : stopBits (x .stops) < 16 = omega (arith, stop-bounds (x .stops) .1) in
     let shifted : (1 * 2 ^ stopBits (x .stops)) % 65536 ≡ 2 ^ stopBits (x .stops) = one-shl (stopBits (x .stops)) 16 few in
-    rw (eq, ev, es, en, ek, shifted) (frame-masks x (cut x w) (cut-low x w))
+    rw (eq, es, en, ek, shifted) (frame-masks x v low)

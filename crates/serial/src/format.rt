@@ -1,8 +1,8 @@
 // The format of a frame, and a word packed into its frame.
 ghost use mathlib.Core.Path.{_≡_};
-ghost use Prim.Native.Nat.{_/_, _%_, _^_, _<_};
+ghost use Prim.Native.Nat.{ℕ, _/_, _%_, _^_, _<_};
 ghost use Rattle.serial.specs.Format.{dataBits, stopBits, stopAt, frameBits, cut};
-ghost use Rattle.serial.specs.Frame.{checkBit, frame, FrameLaw};
+ghost use Rattle.serial.specs.Frame.{checkBit, packed, frame, FrameLaw};
 use crate::parity::Parity;
 
 #[derive(Clone, Copy)]
@@ -14,7 +14,7 @@ pub enum DataBits {
 }
 
 impl DataBits {
-    pub fn count(self) -> u8
+    pub(crate) fn count(self) -> u8
         ensures { λ r. ⌜ r ≡ dataBits self ⌝ }
     {
         match self {
@@ -33,7 +33,7 @@ pub enum StopBits {
 }
 
 impl StopBits {
-    pub fn count(self) -> u8
+    pub(crate) fn count(self) -> u8
         ensures { λ r. ⌜ r ≡ stopBits self ⌝ }
     {
         match self {
@@ -60,7 +60,7 @@ pub(crate) fn bit_at(frame: u16, k: u8) -> u8
 
 impl Format {
     // The place of the first stop bit: behind the start bit, the data bits and the parity bit.
-    pub fn stop_at(self) -> u8
+    pub(crate) fn stop_at(self) -> u8
         ensures { λ r. ⌜ r ≡ stopAt self ⌝ }
     {
         let parity = match self.parity {
@@ -71,21 +71,21 @@ impl Format {
     }
 
     // The number of bits of a frame.
-    pub fn frame_bits(self) -> u8
+    pub(crate) fn frame_bits(self) -> u8
         ensures { λ r. ⌜ r ≡ frameBits self ⌝ }
     {
         self.stop_at() + self.stops.count()
     }
 
     // The word with only its data bits.
-    pub fn cut(self, word: u16) -> u8
+    pub(crate) fn cut(self, word: u16) -> u8
         ensures { λ r. ⌜ r ≡ cut self word ⌝ }
     {
         (word & ((1 << self.bits.count()) - 1)) as u8
     }
 
     // The parity bit of a word that is cut already, 0 where the format has none.
-    pub fn check_bit(self, word: u8) -> u8
+    pub(crate) fn check_bit(self, word: u8) -> u8
         ensures { λ r. ⌜ r ≡ checkBit (self .parity) word ⌝ }
     {
         match self.parity {
@@ -99,7 +99,16 @@ impl Format {
         ensures is { λ r. ⌜ r ≡ frame self word ⌝ }
         ensures law { λ r. ⌜ FrameLaw self word r ⌝ }
     {
-        let word = self.cut(word as u16);
+        let data = self.cut(word as u16);
+        self.pack(data)
+    }
+
+    // The frame of a word that is cut already.
+    fn pack(self, word: u8) -> u16
+        requires { ⌜ word < 2 ^ dataBits (self .bits) ⌝ }
+        ensures is { λ r. ⌜ r ≡ packed self word ⌝ }
+        ensures law { λ r. ⌜ ((w : ℕ) → word ≡ cut self w → FrameLaw self w r) ⌝ }
+    {
         let parity = self.check_bit(word);
         let stops: u16 = (1 << self.stops.count()) - 1;
         (word as u16) << 1 | (parity as u16) << (1 + self.bits.count()) | stops << self.stop_at()

@@ -13,7 +13,7 @@ pub enum Parity {
 
 impl Parity {
     // The parity bit of a word: 0 or 1.
-    pub fn bit(self, word: u8) -> u8
+    pub(crate) fn bit(self, word: u8) -> u8
         ensures { λ r. ⌜ r ≡ parityBit self word ⌝ }
     {
         let ones = (word.count_ones() % 2) as u8;

@@ -79,7 +79,11 @@ impl Transmitter {
     {
         match self {
             Transmitter::Resting => self.begin(format, break_on, cts, tdr),
-            Transmitter::Sending { format: own, count, .. } => {
+            Transmitter::Sending {
+                format: own,
+                count,
+                ..
+            } => {
                 if *count as u16 + 1 < 16 * own.frame_bits() as u16 {
                     *count += 1;
                     false

@@ -5,9 +5,9 @@ use std::fmt;
 
 #[derive(Clone, Copy, PartialEq, Eq, Debug)]
 pub enum ReadNote {
-    Nothing,
-    Fresh,
-    Old,
+    Nothing = 0,
+    Fresh = 1,
+    Old = 2,
 }
 
 impl ReadNote {
@@ -31,9 +31,9 @@ pub impl fmt::Display for ReadNote as ReadNoteDisplay {
 
 #[derive(Clone, Copy, PartialEq, Eq, Debug)]
 pub enum WriteNote {
-    Nothing,
-    Stored,
-    Replaced,
+    Nothing = 0,
+    Stored = 1,
+    Replaced = 2,
 }
 
 impl WriteNote {

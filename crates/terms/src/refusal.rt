@@ -6,18 +6,15 @@ use std::fmt;
 
 #[derive(Clone, Copy, PartialEq, Eq, Debug)]
 pub enum Refusal {
-    NoSuchSelect,
-    NothingToRead,
+    NoSuchSelect = 1,
+    NothingToRead = 2,
 }
 
 impl Refusal {
     pub fn number(self) -> u8
         ensures { λ r. ⌜ r ≡ refusalNumber self ⌝ }
     {
-        match self {
-            Refusal::NoSuchSelect => 1,
-            Refusal::NothingToRead => 2,
-        }
+        self as u8
     }
 }
 

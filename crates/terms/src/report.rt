@@ -5,11 +5,11 @@ use std::fmt;
 
 #[derive(Clone, Copy, PartialEq, Eq, Debug)]
 pub enum ReportKind {
-    Nothing,
-    Break,
-    Passed,
-    Lost,
-    Kept,
+    Nothing = 0,
+    Break = 1,
+    Passed = 2,
+    Lost = 3,
+    Kept = 4,
 }
 
 impl ReportKind {

@@ -1,6 +1,5 @@
-use borrow.Author.Needs.{needs}
 use Rattle.figures.proofs.Computed.{figures}
 use Rattle.figures.proofs.first_bytes.Needs as need
 
 pub returns : need.returns
-returns c = record { bytes = search needs; figures = figures }
+returns c = record { bytes = c .read-after-reset .ensures; figures = figures }

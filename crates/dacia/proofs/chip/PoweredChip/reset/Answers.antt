@@ -1,6 +1,5 @@
-use borrow.Author.Needs.{needs}
 use Rattle.dacia.proofs.Separations.{separated}
 use Rattle.dacia.proofs.chip.PoweredChip.reset.Needs as need
 
 pub returns : need.returns
-returns c = record { is = search needs; separation = separated _ }
+returns c = record { is = c .first-reset .ensures; separation = separated _ }
