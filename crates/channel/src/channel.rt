@@ -49,7 +49,7 @@ pub struct ChannelAnswer {
 
 // Which of the two parts tick in a cycle.
 #[derive(Clone, Copy)]
-pub(crate) struct Ticks {
+pub struct Ticks {
     receiver: bool,
     transmitter: bool,
 }

@@ -17,8 +17,11 @@ use Rattle.dacia.specs.declared.access.ReadAccess.{ReadAccess}
 use Rattle.dacia.specs.declared.access.WriteAccess.{WriteAccess}
 
 -- the select of a channel's register
+abbrev pub selectAt : ChannelId → Register → ℕ
+selectAt ch g = 4 * (channelNumber ch - 1) + registerNumber g
+
 abbrev pub selectOf : Place → ℕ
-selectOf p = 4 * (channelNumber (p .channel) - 1) + registerNumber (p .register)
+selectOf p = selectAt (p .channel) (p .register)
 
 abbrev pub channelAt : ℕ → ChannelId
 channelAt s = cond (ltb s 4) One Two

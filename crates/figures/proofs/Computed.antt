@@ -2,7 +2,10 @@
 use mathlib.Core.Path.{_≡_, refl}
 use lib.Count.{ones}
 use Rattle.dacia.specs.Separation.{step, answer, concerns, seen}
+use Rattle.board.specs.Board.{cycleAnswer, afterCycle}
+use Rattle.board.specs.Calls.{step as boardStep, seen as boardSeen, play}
 use Rattle.figures.specs.Figures.{Figures}
+use Rattle.figures.specs.BoardFigures.{BoardFigures}
 
 pub figures : Figures
 unfolding step answer concerns seen ones
@@ -22,3 +25,7 @@ figures = record {
   first-stays = refl;
   compares = refl;
 }
+
+pub board-figures : BoardFigures
+unfolding cycleAnswer afterCycle boardStep boardSeen play
+board-figures = record { cts-isr = refl; cts-isr-again = refl; nothing-before = refl; kept-in-924 = refl }

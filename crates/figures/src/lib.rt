@@ -1,5 +1,6 @@
-// Worked figures of the chip, computed inside the proof over the definitions that the contracts use.
+// Worked figures of the chip and the board, computed inside the proof over the definitions that the contracts use.
 ghost use mathlib.Core.Path.{_≡_};
+ghost use Rattle.figures.specs.BoardFigures.{BoardFigures};
 ghost use Rattle.figures.specs.Figures.{Figures, firstBytes};
 use dacia::chip::PoweredChip;
 use terms::refusal::Refusal;
@@ -14,7 +15,7 @@ pub struct FirstBytes {
 // Its contract has the other figures too.
 pub fn first_bytes() -> Result<FirstBytes, Refusal>
     ensures bytes { λ r. ⌜ r ≡ firstBytes ⌝ }
-    ensures figures { λ _. ⌜ Figures ⌝ }
+    ensures figures { λ _. ⌜ Figures × BoardFigures ⌝ }
 {
     read_after_reset()
 }

@@ -1,0 +1,5 @@
+pub mod Record
+pub mod Board
+pub mod Sweep
+pub mod Calls
+pub mod Delivery
