@@ -23,6 +23,15 @@ impl Name {
         }
     }
 
+    // What a read at a select reaches; there is nothing to read at selects 2 and 6.
+    pub(crate) fn read_at(select: u8) -> Name {
+        match select % 4 {
+            0 => Name::Isr,
+            1 => Name::Csr,
+            _ => Name::Rdr,
+        }
+    }
+
     // The select at which the register is reached.
     pub(crate) fn select(self, channel: ChannelId) -> u8 {
         let base = match channel {
