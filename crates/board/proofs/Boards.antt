@@ -1,6 +1,5 @@
 -- A cycle of the board from its parts.
-use Rattle.std.proofs.Common.{◌≡◌, Bool, false, List, sym, refl, ap, ◌∙◌}
-use Rattle.channel.specs.Channel.{txd_of}
+use Rattle.std.proofs.Common.{◌≡◌, Bool, false, List, ap, ◌∙◌}
 use Rattle.dacia.specs.declared.chip.Chip.{Chip}
 use Rattle.dacia.specs.declared.chip.Inputs.{Inputs}
 use Rattle.dacia.specs.declared.chip.ChipAnswer.{ChipAnswer}

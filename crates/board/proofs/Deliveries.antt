@@ -1,5 +1,5 @@
 -- Every call keeps the invariant of the board.
-use Rattle.std.proofs.Common.{◌≡◌, ℕ, zero, suc, ◌+◌, ◌%◌, ◌<◌, Bool, true, false, cond, not, ◌&&◌, eqb, ltb, List, [], ◌∷◌, ◌++◌, Some, None, Ok, Err, Option, Result, sym, refl, ap, ◌∙◌, subst, append-nil, arith}
+use Rattle.std.proofs.Common.{◌≡◌, ℕ, zero, suc, ◌+◌, ◌%◌, ◌<◌, Bool, true, false, cond, not, ◌&&◌, eqb, List, [], ◌∷◌, ◌++◌, Some, Ok, Err, Result, sym, refl, ap, ◌∙◌, subst, append-nil, arith}
 use Rattle.std.proofs.lemmas.Bool.{lt-ltb, ne_eqb, cond-false, and_right}
 use Rattle.terms.specs.declared.channel_id.ChannelId.{ChannelId}
 use Rattle.terms.specs.declared.channel_id.ChannelId.TheVariants.{One, Two}
@@ -12,7 +12,6 @@ use Rattle.terms.specs.declared.refusal.Refusal.{Refusal}
 use Rattle.terms.specs.declared.refusal.Refusal.TheVariants.{NoSuchSelect}
 use Rattle.terms.specs.declared.report.Report.{Report}
 use Rattle.terms.specs.Note.{read_note_number, write_note_number}
-use Rattle.channel.specs.declared.control.Control.{Control}
 use Rattle.channel.specs.declared.modem.ModemInput.{ModemInput}
 use Rattle.channel.specs.declared.channel.Channel.{Channel}
 use Rattle.channel.specs.Control.{rate_code, divisor, format_of}
@@ -22,20 +21,19 @@ use Rattle.channel.specs.Sender.{is_empty, tdr_note, filled}
 use Rattle.channel.specs.Receiving.{reading, emptied}
 use Rattle.channel.specs.Channel.{isr_read, rdr_read, tdr_written, modem_changed, with_interrupts}
 use Rattle.dacia.specs.declared.chip.Chip.{Chip}
-use Rattle.terms.specs.declared.register.Register.TheVariants.{Interrupt, Data}
+use Rattle.terms.specs.declared.register.Register.TheVariants.{Data}
 use Rattle.dacia.specs.Access.{select_at, channel_at, register_at, place_at, read_at, write_at}
-use Rattle.dacia.specs.Chip.{channel_of, with_channel, read_of, after_read_of, write_of, after_write_of, read_once, after_read_once, write_once, after_write_once}
+use Rattle.dacia.specs.Chip.{channel_of, with_channel, after_read_of, after_write_of, read_once, after_read_once, write_once, after_write_once}
 use Rattle.dacia.specs.Separation.{same, answer_of}
 use Rattle.link.specs.Link.{Link, link_cycle}
 use Rattle.link.specs.Past.{Past, arrived_of, kept_of, past_cycle, past_write, past_read}
-use Rattle.link.proofs.Motion.{is_full}
 use Rattle.link.proofs.Links.{LinkInv, cycle_inv, write_inv, read_inv, cts_inv}
 use Rattle.board.specs.Board.{State, with_chip, cycle_answer, after_cycle}
 use Rattle.board.specs.Sweep.{Order, cycles, entries, written, sweep_by}
-use Rattle.board.specs.Calls.{Call, read, enable, send, write_above, modem, cycle, sweep, accepted, step, Seen, did_read, did_enable, did_send, did_write_above, did_modem, did_cycle, did_sweep, did_refuse, seen, Played, play_one, play}
+use Rattle.board.specs.Calls.{Call, read, enable, send, write_above, modem, cycle, sweep, accepted, step, Seen, did_read, did_enable, did_send, did_write_above, did_modem, did_sweep, did_refuse, seen, Played, play_one, play}
 use Rattle.board.specs.Delivery.{far, line_of, cts_after, cts_of, past_reading, past_after, past_of, past_sweep}
 use Rattle.board.proofs.Records.{words_more}
-use Rattle.board.proofs.Directions.{link_of, Steady, both, cycle_link, cycle_steady, cycle_level}
+use Rattle.board.proofs.Directions.{link_of, Steady, cycle_link, cycle_steady, cycle_level}
 
 -- one field of the channels after a change of the channel e
 kept : {A : Type 0} (g : Channel → A) (f : Channel → Channel) → ((c : Channel) → g (f c) ≡ g c) → (e ch : ChannelId) (c : Chip) →

@@ -1,23 +1,17 @@
 -- One direction of the board: how each call moves its link.
-use Rattle.std.proofs.Common.{◌≡◌, ℕ, ◌+◌, Bool, true, false, cond, ltb, List, Some, sym, refl, ap, ◌∙◌, subst}
+use Rattle.std.proofs.Common.{◌≡◌, ℕ, ◌+◌, Bool, true, false, cond, ltb, List, Some, sym, ap, ◌∙◌, subst}
 use Rattle.terms.specs.declared.channel_id.ChannelId.{ChannelId}
 use Rattle.terms.specs.declared.channel_id.ChannelId.TheVariants.{One, Two}
 use Rattle.terms.specs.declared.report.Report.{Report}
-use Rattle.terms.specs.declared.report.ReportKind.TheVariants.{Nothing}
 use Rattle.serial.specs.declared.format.Format.{Format}
 use Rattle.channel.specs.declared.channel.Channel.{Channel}
 use Rattle.channel.specs.declared.channel.ChannelAnswer.{ChannelAnswer}
-use Rattle.channel.specs.declared.sender.Sender.{Sender}
-use Rattle.channel.specs.declared.receiving.Receiving.{Receiving}
 use Rattle.channel.specs.Control.{rate_code, divisor, format_of}
 use Rattle.channel.specs.Channel.{txd_of}
-use Rattle.channel.specs.Sender.{sent}
-use Rattle.channel.specs.Receiving.{reported, heard_by}
 use Rattle.channel.specs.Calls.{cycled}
-use Rattle.dacia.specs.declared.chip.Chip.{Chip}
-use Rattle.dacia.specs.Chip.{channel_of, with_channel}
+use Rattle.dacia.specs.Chip.{channel_of}
 use Rattle.dacia.specs.Separation.{answer_of}
-use Rattle.line.specs.Line.{leaves, held}
+use Rattle.line.specs.Line.{held}
 use Rattle.link.specs.Link.{Link, given, taken, idled, ticked_on, link_cycle}
 use Rattle.board.specs.Board.{State, inputs, cycle_answer, after_cycle}
 use Rattle.board.specs.Delivery.{far, line_of}

@@ -1,5 +1,5 @@
 -- A board that has just accepted its set-up delivers.
-use Rattle.std.proofs.Common.{◌≡◌, ℕ, zero, suc, ◌+◌, ◌%◌, ◌<◌, ◌≤◌, Bool, true, false, cond, not, ◌&&◌, ◌||◌, eqb, ltb, List, [], ◌∷◌, ◌++◌, map, length, get_or, replicate, is_ok, Some, None, Ok, Err, Option, Result, sym, refl, ap, ◌∙◌, subst, mod-lt, arith}
+use Rattle.std.proofs.Common.{◌≡◌, ℕ, zero, suc, ◌%◌, ◌<◌, Bool, true, false, cond, ◌&&◌, eqb, ltb, List, [], ◌∷◌, ◌++◌, length, get_or, replicate, is_ok, Some, None, Ok, Err, Result, sym, refl, ap, ◌∙◌, subst, mod-lt, arith}
 use Rattle.std.proofs.lemmas.Bool.{and_parts, or_parts, eqb-false, lt-ltb, ltb-true, cond-true, true≢false}
 use Rattle.terms.specs.declared.channel_id.ChannelId.{ChannelId}
 use Rattle.terms.specs.declared.channel_id.ChannelId.TheVariants.{One, Two}
@@ -9,7 +9,6 @@ use Rattle.terms.specs.declared.register.Register.TheVariants.{Interrupt, Contro
 use Rattle.serial.specs.declared.receiver.Receiver.TheVariants.{Hunting}
 use Rattle.serial.specs.declared.transmitter.Transmitter.TheVariants.{Resting}
 use Rattle.serial.specs.Frame.{bit}
-use Rattle.channel.specs.declared.sender.Sender.{Sender}
 use Rattle.channel.specs.declared.channel.Channel.{Channel}
 use Rattle.channel.specs.Control.{rate_code, divisors, divisor, format_of}
 use Rattle.channel.specs.Channel.{powered_on, after_reset, cr_written, fr_written, control_written, rdr_read, tdre, fob, any_set, isr_of, csr_of}
@@ -19,12 +18,12 @@ use Rattle.dacia.specs.declared.chip.Chip.{Chip}
 use Rattle.dacia.specs.Chip.{channel_of}
 use Rattle.line.specs.Line.{all_high}
 use Rattle.link.specs.Past.{only}
-use Rattle.link.proofs.Links.{Clean, LinkInv, start_inv, Arrivals, arrives}
+use Rattle.link.proofs.Links.{Clean, start_inv, arrives}
 use Rattle.board.specs.Board.{State, with_chip, bad_control, lines_quiet, set_up_answer, set_up_chip, after_set_up}
-use Rattle.board.specs.Calls.{Call, Played, started, play}
+use Rattle.board.specs.Calls.{Played, started, play}
 use Rattle.board.specs.Delivery.{far, line_of, past_of, byte_at, Delivered, divisor_of, Delivers}
 use Rattle.board.proofs.Turns.{settings}
-use Rattle.board.proofs.Directions.{link_of, Steady, both}
+use Rattle.board.proofs.Directions.{link_of, both}
 use Rattle.board.proofs.Deliveries.{Inv, play_inv}
 
 -- a quiet line holds only high levels

@@ -1,7 +1,5 @@
 -- The board: TxD1 goes into line A, whose answer is RxD2, and TxD2 into line B, whose answer is RxD1.
-use Rattle.std.specs.Prelude.{ℕ, Bool, true, false, cond, not, ◌&&◌, ◌||◌, List, Ok, Err, Result, ◌==◌}
-use Rattle.terms.specs.declared.channel_id.ChannelId.{ChannelId}
-use Rattle.terms.specs.declared.modem_line.ModemLine.{ModemLine}
+use Rattle.std.specs.Prelude.{ℕ, Bool, false, cond, ◌&&◌, ◌||◌, List, Ok, Err, Result, ◌==◌}
 use Rattle.terms.specs.declared.refusal.Refusal.{Refusal}
 use Rattle.terms.specs.declared.refusal.Refusal.TheVariants.{BadControl, BadFormat, LineNotQuiet}
 use Rattle.serial.specs.Frame.{bit}

@@ -1,12 +1,11 @@
 -- Lists of calls on a board that is set up, and what they answered.
-use Rattle.std.specs.Prelude.{ℕ, ◌+◌, Bool, true, false, cond, List, [], ◌∷◌, Result, ◌==◌}
+use Rattle.std.specs.Prelude.{ℕ, ◌+◌, Bool, cond, List, [], ◌∷◌, Result, ◌==◌}
 use Rattle.terms.specs.declared.channel_id.ChannelId.{ChannelId}
 use Rattle.terms.specs.declared.modem_line.ModemLine.{ModemLine}
 use Rattle.terms.specs.declared.note.Reading.{Reading}
 use Rattle.terms.specs.declared.note.WriteNote.{WriteNote}
 use Rattle.terms.specs.declared.refusal.Refusal.{Refusal}
 use Rattle.terms.specs.declared.register.Register.TheVariants.{Interrupt, Data}
-use Rattle.dacia.specs.declared.chip.Chip.{Chip}
 use Rattle.dacia.specs.declared.chip.ChipAnswer.{ChipAnswer}
 use Rattle.dacia.specs.Access.{select_at}
 use Rattle.dacia.specs.Chip.{read_once, after_read_once, write_once, after_write_once, modem_on}

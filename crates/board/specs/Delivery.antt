@@ -1,9 +1,8 @@
 -- Delivery: the words written to one channel's TDR arrive at the other channel, in order and unaltered, and all of them in time.
 -- The statement speaks only of calls and of what they answered.
-use Rattle.std.specs.Prelude.{◌≡◌, ℕ, zero, suc, ◌+◌, ◌*◌, ◌≤◌, Bool, true, false, cond, ◌&&◌, List, [], ◌∷◌, ◌++◌, map, length, Ok, Err, Result, ◌==◌, slice_index}
+use Rattle.std.specs.Prelude.{◌≡◌, ℕ, zero, suc, ◌+◌, ◌*◌, ◌≤◌, Bool, false, cond, ◌&&◌, List, [], ◌∷◌, ◌++◌, map, length, Ok, Err, Result, ◌==◌, slice_index}
 use Rattle.terms.specs.declared.channel_id.ChannelId.{ChannelId}
 use Rattle.terms.specs.declared.channel_id.ChannelId.TheVariants.{One, Two}
-use Rattle.terms.specs.declared.modem_line.ModemLine.{ModemLine}
 use Rattle.terms.specs.declared.modem_line.ModemLine.TheVariants.{Cts}
 use Rattle.terms.specs.declared.note.Reading.{Reading}
 use Rattle.terms.specs.declared.note.ReadNote.TheVariants.{Fresh}
@@ -19,7 +18,6 @@ use Rattle.serial.specs.declared.format.Format.{Format}
 use Rattle.serial.specs.Format.{frame_bits, cut}
 use Rattle.serial.specs.Frame.{bit}
 use Rattle.channel.specs.Control.{rate_code, divisors, format_of}
-use Rattle.dacia.specs.declared.chip.ChipAnswer.{ChipAnswer}
 use Rattle.dacia.specs.Access.{select_at}
 use Rattle.dacia.specs.Chip.{read_once}
 use Rattle.dacia.specs.Separation.{same, answer_of}

@@ -1,6 +1,5 @@
 -- A sweep: k cycles, whose reports are written into a list of records.
-use Rattle.std.specs.Prelude.{◌≡◌, ℕ, zero, suc, ◌+◌, ◌*◌, Bool, true, false, cond, ◌||◌, List, [], ◌∷◌, ◌++◌, length, drop, Ok, Err, Result, ◌==◌, nat_lt}
-use Rattle.terms.specs.declared.channel_id.ChannelId.{ChannelId}
+use Rattle.std.specs.Prelude.{◌≡◌, ℕ, zero, suc, ◌+◌, ◌*◌, Bool, cond, ◌||◌, List, [], ◌++◌, length, drop, Ok, Err, Result, ◌==◌, nat_lt}
 use Rattle.terms.specs.declared.channel_id.ChannelId.TheVariants.{One, Two}
 use Rattle.terms.specs.declared.refusal.Refusal.{Refusal}
 use Rattle.dacia.specs.declared.chip.ChipAnswer.{ChipAnswer}

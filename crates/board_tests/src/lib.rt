@@ -1,4 +1,6 @@
 // Tests of the board and of the lines by their public calls alone. There is nothing here but tests.
+#![tactic(auto)]
+
 #[cfg(test)]
 mod lines;
 #[cfg(test)]

@@ -1,5 +1,5 @@
 -- The bits of a byte that is put together from eight.
-use Rattle.std.proofs.Common.{◌≡◌, ℕ, ◌/◌, ◌%◌, ◌^◌, ◌≤◌, Bool, true, false, eqb, refl, ap, ◌∙◌, arith}
+use Rattle.std.proofs.Common.{◌≡◌, ◌/◌, ◌%◌, ◌≤◌, Bool, true, false, eqb, refl, ap, ◌∙◌, arith}
 use Rattle.serial.specs.Frame.{bit, weight}
 use Rattle.channel.specs.Bits.{byte_of}
 

@@ -1,5 +1,5 @@
 -- Requests that follow the sources.
-use Rattle.std.proofs.Common.{◌≡◌, ℕ, Bool, false, sym, refl, ap, ◌∙◌}
+use Rattle.std.proofs.Common.{◌≡◌, ℕ, false, ap, ◌∙◌}
 use Rattle.channel.specs.declared.interrupts.Interrupts.{Interrupts}
 use Rattle.channel.specs.declared.channel.Channel.{Channel}
 use Rattle.channel.specs.Interrupts.{followed}

@@ -1,5 +1,5 @@
 -- The calls on a channel: what each answers, and the channel after it.
-use Rattle.std.specs.Prelude.{ℕ, Bool, true, false, cond, Ok, Err, Result}
+use Rattle.std.specs.Prelude.{ℕ, Bool, cond, Ok, Err, Result}
 use Rattle.terms.specs.declared.refusal.Refusal.{Refusal}
 use Rattle.terms.specs.declared.refusal.Refusal.TheVariants.{NothingToRead}
 use Rattle.terms.specs.declared.register.Register.{Register}

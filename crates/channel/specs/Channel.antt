@@ -6,8 +6,6 @@ use Rattle.serial.specs.declared.transmitter.Transmitter.TheVariants.{Resting}
 use Rattle.serial.specs.Frame.{bit}
 use Rattle.serial.specs.Transmitter.{level, resting}
 use Rattle.terms.specs.declared.modem_line.ModemLine.{ModemLine}
-use Rattle.terms.specs.declared.note.Reading.{Reading}
-use Rattle.terms.specs.declared.note.WriteNote.{WriteNote}
 use Rattle.terms.specs.declared.report.Report.{Report}
 use Rattle.channel.specs.declared.control.Control.{Control}
 use Rattle.channel.specs.declared.modem.ModemInput.{ModemInput}
@@ -20,9 +18,9 @@ use Rattle.channel.specs.declared.channel.Ticks.{Ticks}
 use Rattle.channel.specs.Bits.{byte_of}
 use Rattle.channel.specs.Control.{rate_code, divisor, format_of}
 use Rattle.channel.specs.Modem.{modem_set, seen}
-use Rattle.channel.specs.Interrupts.{followed, ier_written, dropped}
-use Rattle.channel.specs.Sender.{is_empty, tdr_note, filled, sent}
-use Rattle.channel.specs.Receiving.{no_errors, reading, emptied, heard_by}
+use Rattle.channel.specs.Interrupts.{followed, dropped}
+use Rattle.channel.specs.Sender.{is_empty, filled, sent}
+use Rattle.channel.specs.Receiving.{no_errors, emptied, heard_by}
 
 -- one part of a channel changed
 abbrev pub with_control : Control → Channel → Channel

@@ -1,10 +1,9 @@
 -- What the registers CR and FR set: the rate and the format.
-use Rattle.std.specs.Prelude.{ℕ, ◌/◌, ◌%◌, Bool, true, false, cond, List, [], ◌∷◌, Some, None, Option, ◌==◌, nat_lt, slice_index}
+use Rattle.std.specs.Prelude.{ℕ, ◌/◌, ◌%◌, cond, List, [], ◌∷◌, Some, None, Option, ◌==◌, nat_lt, slice_index}
 use Rattle.serial.specs.declared.parity.Parity.{Parity}
 use Rattle.serial.specs.declared.parity.Parity.TheVariants.{Odd, Even, Mark, Space}
 use Rattle.serial.specs.declared.format.DataBits.{DataBits}
 use Rattle.serial.specs.declared.format.DataBits.TheVariants.{Five, Six, Seven, Eight}
-use Rattle.serial.specs.declared.format.StopBits.{StopBits}
 use Rattle.serial.specs.declared.format.StopBits.TheVariants.{One, Two}
 use Rattle.serial.specs.declared.format.Format.{Format}
 use Rattle.serial.specs.Frame.{bit}

@@ -1,5 +1,5 @@
 -- Interrupt sources, as bits 6-0 of a byte in the order of ISR: TDRE, CTST, DCDT, DSRT, PAR, F/O/B, RDRF.
-use Rattle.std.specs.Prelude.{ℕ, Bool, cond, bit_and, bit_or, bit_xor}
+use Rattle.std.specs.Prelude.{ℕ, cond, bit_and, bit_or, bit_xor}
 use Rattle.serial.specs.Frame.{bit}
 use Rattle.channel.specs.declared.interrupts.Interrupts.{Interrupts}
 

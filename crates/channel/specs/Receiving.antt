@@ -4,7 +4,6 @@ use Rattle.serial.specs.declared.format.Format.{Format}
 use Rattle.serial.specs.declared.receiver.Received.{Received}
 use Rattle.serial.specs.declared.receiver.Receiver.{Receiver}
 use Rattle.serial.specs.Receiver.{heard}
-use Rattle.terms.specs.declared.note.ReadNote.{ReadNote}
 use Rattle.terms.specs.declared.note.ReadNote.TheVariants.{Fresh, Old}
 use Rattle.terms.specs.declared.note.Reading.{Reading}
 use Rattle.terms.specs.declared.report.Report.{Report}

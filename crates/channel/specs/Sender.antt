@@ -2,7 +2,7 @@
 use Rattle.std.specs.Prelude.{ℕ, Bool, true, false, cond, Some, None, Option}
 use Rattle.serial.specs.declared.format.Format.{Format}
 use Rattle.serial.specs.declared.transmitter.Transmitter.{Transmitter}
-use Rattle.serial.specs.Transmitter.{ticked, resting}
+use Rattle.serial.specs.Transmitter.{ticked}
 use Rattle.terms.specs.declared.note.WriteNote.{WriteNote}
 use Rattle.terms.specs.declared.note.WriteNote.TheVariants.{Stored, Replaced}
 use Rattle.channel.specs.declared.sender.Sender.{Sender}

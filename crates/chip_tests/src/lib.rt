@@ -1,4 +1,6 @@
 // Tests of the chip by its public calls alone. There is nothing here but tests.
+#![tactic(auto)]
+
 #[cfg(test)]
 mod accesses;
 #[cfg(test)]

@@ -1,11 +1,9 @@
 -- Separation, by one induction over the calls for either channel.
-use Rattle.std.proofs.Common.{◌≡◌, ℕ, ◌%◌, Bool, true, false, cond, ◌||◌, eqb, ltb, List, [], ◌∷◌, ◌++◌, Ok, Err, Result, sym, refl, ap, ◌∙◌}
+use Rattle.std.proofs.Common.{◌≡◌, ℕ, ◌%◌, Bool, true, false, cond, ◌||◌, ltb, List, [], ◌∷◌, ◌++◌, Ok, Err, sym, refl, ap, ◌∙◌}
 use Rattle.std.proofs.lemmas.Bool.{true≢false}
 use Rattle.terms.specs.declared.channel_id.ChannelId.{ChannelId}
 use Rattle.terms.specs.declared.channel_id.ChannelId.TheVariants.{One, Two}
-use Rattle.terms.specs.declared.modem_line.ModemLine.{ModemLine}
 use Rattle.terms.specs.declared.refusal.Refusal.TheVariants.{NoSuchSelect}
-use Rattle.terms.specs.declared.register.Register.{Register}
 use Rattle.channel.specs.declared.channel.Channel.{Channel}
 use Rattle.channel.specs.declared.channel.ChannelAnswer.{ChannelAnswer}
 use Rattle.channel.specs.Channel.{txd_of, irq_of, after_reset, modem_changed}
@@ -14,8 +12,8 @@ use Rattle.dacia.specs.declared.access.Place.{Place}
 use Rattle.dacia.specs.declared.chip.Chip.{Chip}
 use Rattle.dacia.specs.declared.chip.Inputs.{Inputs}
 use Rattle.dacia.specs.Access.{channel_at, register_at, place_at, read_at, write_at}
-use Rattle.dacia.specs.Chip.{channel_of, with_channel, chip_reset, read_of, after_read_of, write_of, after_write_of, read_once, after_read_once, write_once, after_write_once, modem_on, chip_cycled}
-use Rattle.dacia.specs.Separation.{Call, reset, read, write, modem, cycle, step, Answer, note, reports, read_shown, write_shown, answer_of, answer, Shown, shown, same, stays, concerns, own_inputs, own, only, struck, seen, Separated}
+use Rattle.dacia.specs.Chip.{channel_of, with_channel, chip_reset, read_of, after_read_of, write_of, after_write_of, after_read_once, after_write_once, chip_cycled}
+use Rattle.dacia.specs.Separation.{Call, reset, read, write, modem, cycle, step, note, reports, read_shown, write_shown, answer_of, answer, shown, same, concerns, own_inputs, own, only, struck, seen, Separated}
 
 -- a channel that was changed, and the other
 changed_same : (ch e : ChannelId) (x : Channel) (c : Chip) → same ch e ≡ true → channel_of ch (with_channel e x c) ≡ x

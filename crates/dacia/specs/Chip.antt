@@ -1,5 +1,5 @@
 -- The chip: two channels, and what each call answers and leaves.
-use Rattle.std.specs.Prelude.{ℕ, Bool, cond, Ok, Err, Result}
+use Rattle.std.specs.Prelude.{ℕ, Bool, Ok, Err, Result}
 use Rattle.terms.specs.declared.channel_id.ChannelId.{ChannelId}
 use Rattle.terms.specs.declared.channel_id.ChannelId.TheVariants.{One, Two}
 use Rattle.terms.specs.declared.modem_line.ModemLine.{ModemLine}
@@ -9,7 +9,6 @@ use Rattle.terms.specs.declared.refusal.Refusal.{Refusal}
 use Rattle.channel.specs.declared.channel.Channel.{Channel}
 use Rattle.channel.specs.Channel.{powered_on, after_reset, modem_changed}
 use Rattle.channel.specs.Calls.{read_answer, after_read, write_answer, after_write, cycled}
-use Rattle.dacia.specs.declared.access.Place.{Place}
 use Rattle.dacia.specs.declared.access.ReadAccess.{ReadAccess}
 use Rattle.dacia.specs.declared.access.WriteAccess.{WriteAccess}
 use Rattle.dacia.specs.declared.chip.PoweredChip.{PoweredChip}

@@ -1,5 +1,5 @@
 -- The figures, computed.
-use Rattle.std.proofs.Common.{◌≡◌, refl}
+use Rattle.std.proofs.Common.{refl}
 use lib.Count.{ones}
 use Rattle.dacia.specs.Separation.{step, answer, concerns, seen}
 use Rattle.board.specs.Board.{cycle_answer, after_cycle}

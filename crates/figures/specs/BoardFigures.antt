@@ -1,12 +1,12 @@
 -- Worked figures of the board, over the definitions of its calls.
-use Rattle.std.specs.Prelude.{◌≡◌, ℕ, Bool, true, false, List, [], ◌∷◌, replicate}
+use Rattle.std.specs.Prelude.{◌≡◌, ℕ, true, [], ◌∷◌, replicate}
 use Rattle.terms.specs.declared.channel_id.ChannelId.TheVariants.{One}
 use Rattle.terms.specs.declared.modem_line.ModemLine.TheVariants.{Cts}
 use Rattle.channel.specs.Calls.{plainly}
 use Rattle.dacia.specs.Chip.{read_once, after_read_once, modem_on}
 use Rattle.link.specs.Past.{Past}
 use Rattle.board.specs.Board.{State, set_up_chip}
-use Rattle.board.specs.Calls.{Call, send, cycle, play, started}
+use Rattle.board.specs.Calls.{send, cycle, play, started}
 use Rattle.board.specs.Delivery.{past_of}
 
 -- a board with wires that was set up with CR $0E and FR $E0: 8 data bits, no parity, one stop bit, a tick every 6 cycles

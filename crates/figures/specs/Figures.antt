@@ -1,5 +1,5 @@
 -- Worked figures of the chip, over the definitions of its calls.
-use Rattle.std.specs.Prelude.{◌≡◌, ℕ, zero, suc, ◌+◌, Bool, true, false, List, [], ◌∷◌, ◌++◌, map, replicate, Ok, Err, Result}
+use Rattle.std.specs.Prelude.{◌≡◌, ℕ, zero, suc, Bool, true, false, List, [], ◌∷◌, ◌++◌, map, replicate, Ok, Result}
 use Rattle.terms.specs.declared.channel_id.ChannelId.TheVariants.{One}
 use Rattle.terms.specs.declared.note.Reading.{Reading}
 use Rattle.terms.specs.declared.note.ReadNote.TheVariants.{Fresh}
@@ -13,7 +13,6 @@ use Rattle.channel.specs.Control.{format_of}
 use Rattle.channel.specs.Calls.{plainly}
 use Rattle.channel.specs.Receiving.{reported}
 use Rattle.dacia.specs.declared.chip.Chip.{Chip}
-use Rattle.dacia.specs.declared.chip.Inputs.{Inputs}
 use Rattle.dacia.specs.Chip.{newly_reset, read_once}
 use Rattle.dacia.specs.Separation.{Call, read, write, cycle, step, Answer, silent, byte, note, refused, reports, Shown, seen}
 use Rattle.figures.specs.declared.FirstBytes.{FirstBytes}

@@ -1,4 +1,6 @@
 // Worked figures of the chip and the board, computed inside the proof over the definitions that the contracts use.
+#![tactic(auto)]
+
 ghost use Rattle.std.specs.Prelude.{◌≡◌};
 ghost use Rattle.figures.specs.BoardFigures.{BoardFigures};
 ghost use Rattle.figures.specs.Figures.{Figures, first_bytes};

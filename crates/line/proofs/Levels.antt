@@ -2,7 +2,7 @@
 use Rattle.std.proofs.Common.{◌≡◌, ℕ, zero, suc, ◌+◌, ◌%◌, ◌<◌, ◌≤◌, Bool, true, false, ◌&&◌, ◌⊎◌, List, [], ◌∷◌, ◌++◌, length, get_or, take, drop, set, sym, refl, ap, ◌∙◌, inl, inr, append_assoc, append-nil, mod-eq_of_lt, arith, length-append}
 use native.Mathlib.Nat.{mod_self}
 use Rattle.std.proofs.lemmas.Bool.{cases_lt}
-use Rattle.std.proofs.lemmas.List.{drop_more, take_more, take_more_set, drop-set-lt, length_push, take_all, drop_all, length-set, take-append-drop}
+use Rattle.std.proofs.lemmas.List.{drop_more, take_more, take_more_set, drop-set-lt, take_all, drop_all, length-set, take-append-drop}
 use Rattle.line.specs.Line.{leaves, held, all_high}
 use Rattle.line.specs.TableLine.{rotate}
 

@@ -1,5 +1,5 @@
 -- A cycle keeps the invariant of the motion.
-use Rattle.std.proofs.Common.{◌≡◌, ℕ, zero, suc, ◌+◌, ◌-◌, ◌*◌, ◌<◌, ◌≤◌, max, Bool, true, false, cond, ltb, ◌⊎◌, List, [], ◌∷◌, ◌++◌, map, length, Some, None, Option, sym, refl, ap, ◌∙◌, subst, inl, inr, append_assoc, append-nil, mul-le-mul_right, one-mul, arith, length-append}
+use Rattle.std.proofs.Common.{◌≡◌, ℕ, suc, ◌+◌, ◌-◌, ◌*◌, ◌<◌, ◌≤◌, max, Bool, true, false, cond, ltb, ◌⊎◌, List, [], ◌∷◌, ◌++◌, map, length, Some, None, Option, sym, refl, ap, ◌∙◌, subst, inl, inr, append_assoc, append-nil, mul-le-mul_right, one-mul, arith, length-append}
 use Rattle.std.proofs.lemmas.List.{map_push}
 use Rattle.std.proofs.lemmas.Bool.{ltb-true, ltb-false}
 use Rattle.serial.specs.declared.format.Format.{Format}
@@ -7,17 +7,15 @@ use Rattle.serial.specs.declared.receiver.Receiver.{Receiver}
 use Rattle.serial.specs.declared.receiver.Received.{Received}
 use Rattle.serial.specs.declared.transmitter.Transmitter.{Transmitter}
 use Rattle.serial.specs.declared.transmitter.Transmitter.TheVariants.{Resting, Sending, Breaking}
-use Rattle.serial.specs.Format.{cut}
 use Rattle.serial.specs.Frame.{frame}
 use Rattle.serial.specs.Receiver.{heard}
-use Rattle.serial.specs.Transmitter.{level, frame_ticks, taken, ticked}
+use Rattle.serial.specs.Transmitter.{level, frame_ticks, taken}
 use Rattle.serial.proofs.Formats.{frame_bounds}
-use Rattle.channel.specs.declared.sender.Sender.{Sender}
 use Rattle.channel.specs.Sender.{handed, sent}
 use Rattle.line.specs.Line.{leaves, held}
 use Rattle.line.proofs.Levels.{length_held}
-use Rattle.link.proofs.Runs.{R, after, turn_r, cycle_r, stretch}
-use Rattle.link.proofs.WholeFrame.{level_at, ticks}
+use Rattle.link.proofs.Runs.{R, after, turn_r}
+use Rattle.link.proofs.WholeFrame.{level_at}
 use Rattle.link.proofs.Flow.{Flow, flow_idle, flow_step, flow_frame}
 use Rattle.link.proofs.Pending.{pending, pend_mid, pend_next, pend_last, pend_some, pend_most, pend_start}
 use Rattle.link.proofs.Motion.{frame_cycles, Fits, is_full, waiting, sent_as, extra, Timing, Motion, Going, Next}

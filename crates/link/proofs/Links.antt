@@ -1,5 +1,5 @@
 -- One direction of a board keeps its invariant, and what the invariant says of the words.
-use Rattle.std.proofs.Common.{◌≡◌, ℕ, zero, suc, ◌+◌, ◌-◌, ◌*◌, ◌<◌, ◌≤◌, Bool, true, false, cond, not, ltb, ◌⊎◌, List, [], ◌∷◌, ◌++◌, map, length, replicate, Some, None, Option, sym, refl, ap, ◌∙◌, subst, inl, inr, append_assoc, append-nil, mul-le-mul_right, mul_assoc, one-mul, arith, length-append}
+use Rattle.std.proofs.Common.{◌≡◌, ℕ, ◌+◌, ◌*◌, ◌<◌, ◌≤◌, Bool, true, false, cond, ltb, List, [], ◌∷◌, ◌++◌, map, length, replicate, Some, None, Option, sym, refl, ap, ◌∙◌, subst, inl, inr, append_assoc, append-nil, mul-le-mul_right, mul_assoc, one-mul, arith, length-append}
 use lib.ListN.{length-replicate}
 use Rattle.std.proofs.lemmas.List.{map-append}
 use Rattle.std.proofs.lemmas.Bool.{ltb-true, true≢false}
@@ -21,11 +21,11 @@ use Rattle.channel.specs.Receiving.{emptied, with_receiver, passed_by, overrun, 
 use Rattle.line.specs.Line.{held}
 use Rattle.line.proofs.Levels.{length_held}
 use Rattle.link.specs.Link.{Link, given, taken, idled, ticked_on, link_cycle}
-use Rattle.link.specs.Past.{Past, nothing_yet, arrived_of, kept_of, only, unless, row_after, longest_after, past_cycle, past_write, past_read}
+use Rattle.link.specs.Past.{Past, nothing_yet, arrived_of, kept_of, only, row_after, longest_after, past_cycle, past_write, past_read}
 use Rattle.link.proofs.Runs.{R, outs, run, run_log}
 use Rattle.link.proofs.Flow.{Flow}
-use Rattle.link.proofs.Pending.{pending, pend_some, pend_most}
-use Rattle.link.proofs.Motion.{frame_cycles, Fits, is_full, waiting, sent_as, Timing, Motion, Going, Next}
+use Rattle.link.proofs.Pending.{pending, pend_most}
+use Rattle.link.proofs.Motion.{frame_cycles, Fits, is_full, waiting, sent_as, Timing, Going, Next}
 use Rattle.link.proofs.Cycles.{mid, tick}
 
 -- no flag of a bad frame, and awake

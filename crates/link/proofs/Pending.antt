@@ -1,5 +1,5 @@
 -- The levels that the sender still has to give for the frame under way, one to a cycle. M is the number of ticks of a frame.
-use Rattle.std.proofs.Common.{◌≡◌, ℕ, zero, suc, ◌+◌, ◌-◌, ◌*◌, ◌<◌, ◌≤◌, Bool, true, false, List, [], ◌∷◌, ◌++◌, length, replicate, sym, refl, ap, ◌∙◌, mul-le-mul_right, suc-mul, zero-mul, arith, length-append}
+use Rattle.std.proofs.Common.{◌≡◌, ℕ, suc, ◌+◌, ◌-◌, ◌*◌, ◌<◌, ◌≤◌, Bool, List, [], ◌∷◌, ◌++◌, length, replicate, sym, ap, ◌∙◌, mul-le-mul_right, suc-mul, zero-mul, arith, length-append}
 use lib.ListN.{length-replicate}
 use Rattle.serial.specs.declared.format.Format.{Format}
 use Rattle.serial.specs.declared.transmitter.Transmitter.{Transmitter}

@@ -1,17 +1,16 @@
 -- One whole frame, tick by tick, from a hunting receiver: it ends hunting, with exactly one clean frame of the word.
 use Rattle.std.proofs.Common.{◌≡◌, ℕ, zero, suc, ◌+◌, ◌-◌, ◌*◌, ◌/◌, ◌%◌, ◌^◌, ◌<◌, ◌≤◌, Bool, true, false, cond, not, ◌&&◌, eqb, ltb, List, [], ◌∷◌, ◌++◌, length, Some, None, Option, sym, refl, ap, ◌∙◌, append-nil, mod-lt, mod-eq_of_lt, mul_assoc, add-mul, arith, pow_pos, pow-add}
 use native.Mathlib.Nat.{add-mul-mod_self_right}
-use lib.Bits.{bit_or}
 use lib.Arith.{digits_div}
-use Rattle.std.proofs.lemmas.Bool.{eq-eqb, ne_eqb, eqb-true, eqb-false, lt-ltb, le-ltb, cond-false, cond-true, and_left, and_right}
+use Rattle.std.proofs.lemmas.Bool.{eq-eqb, ne_eqb, eqb-true, eqb-false, lt-ltb, le-ltb, cond-false, cond-true}
 use Rattle.serial.specs.declared.parity.Parity.{Parity}
 use Rattle.serial.specs.declared.format.Format.{Format}
 use Rattle.serial.specs.declared.receiver.Receiver.{Receiver}
 use Rattle.serial.specs.declared.receiver.Receiver.TheVariants.{Hunting, Gathering}
 use Rattle.serial.specs.declared.receiver.Received.{Received}
 use Rattle.serial.specs.Format.{data_bits, parity_bits, stop_bits, stop_at, frame_bits, cut}
-use Rattle.serial.specs.Frame.{bit, weight, check_bit, packed, frame, FrameLaw}
-use Rattle.serial.specs.Receiver.{with_bit, word_of, parity_in, parity_of, received, ended, sampled, counted, gathered, heard}
+use Rattle.serial.specs.Frame.{bit, weight, check_bit, frame}
+use Rattle.serial.specs.Receiver.{with_bit, word_of, parity_in, parity_of, received, ended, sampled, counted, heard}
 use Rattle.serial.proofs.Bits.{low_more, or_above}
 use Rattle.serial.proofs.Formats.{stop_bounds, check_bit_low, cut_low}
 use Rattle.serial.proofs.Frames.{below_stops, low_part, frame_law}

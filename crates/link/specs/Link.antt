@@ -1,8 +1,7 @@
 -- One direction of a board: a sender, a line and a receiver under one clock.
-use Rattle.std.specs.Prelude.{ℕ, suc, ◌+◌, max, Bool, true, false, cond, List, [], ◌∷◌, ◌++◌, nat_lt}
+use Rattle.std.specs.Prelude.{ℕ, ◌+◌, Bool, false, cond, List, nat_lt}
 use Rattle.terms.specs.declared.report.Report.{Report}
-use Rattle.terms.specs.declared.report.ReportKind.{ReportKind}
-use Rattle.terms.specs.declared.report.ReportKind.TheVariants.{Nothing, Break, Passed, Lost, Kept}
+use Rattle.terms.specs.declared.report.ReportKind.TheVariants.{Nothing}
 use Rattle.serial.specs.declared.format.Format.{Format}
 use Rattle.serial.specs.Transmitter.{level}
 use Rattle.channel.specs.declared.sender.Sender.{Sender}

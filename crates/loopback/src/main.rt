@@ -1,4 +1,6 @@
 // A board whose channels talk to each other: channel 1 sends a short message, channel 2 replies, and each thing that happens is a line.
+#![tactic(auto)]
+
 use crate::bench::Bench;
 use crate::story::STORY;
 

@@ -1,2 +1,4 @@
 // The lines of a script: a token for each command, which borrows the bytes of its line.
+#![tactic(auto)]
+
 pub mod token;

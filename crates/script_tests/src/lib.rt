@@ -1,4 +1,6 @@
 // Tests of the script reader by its public call alone. There is nothing here but tests.
+#![tactic(auto)]
+
 #[cfg(test)]
 mod answers;
 #[cfg(test)]

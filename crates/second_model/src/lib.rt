@@ -2,6 +2,7 @@
 // `docs/CHIP.md`, `docs/BOARD.md` and `docs/SCRIPT.md` alone.
 // It shares no code with the first model, and has no contracts: the programs `trials` and
 // `script_trials` compare the two.
+#![tactic(auto)]
 
 mod board;
 mod channel;

@@ -1,8 +1,8 @@
 -- Bits of numbers.
-use Rattle.std.proofs.Common.{◌≡◌, ℕ, zero, suc, ◌+◌, ◌-◌, ◌*◌, ◌/◌, ◌%◌, ◌^◌, ◌<◌, ◌≤◌, Bool, true, false, eqb, sym, refl, ap, ◌∙◌, mod-lt, arith}
+use Rattle.std.proofs.Common.{◌≡◌, ℕ, zero, suc, ◌+◌, ◌-◌, ◌*◌, ◌/◌, ◌%◌, ◌^◌, ◌<◌, eqb, refl, ap, ◌∙◌, mod-lt, arith}
 use lib.Bits.{bit_and, bit_or}
 use lib.Pow.{mod-mod-pow, mod-pow-add}
-use Rattle.std.proofs.lemmas.Nat.{field_of, and_mask, or_comm, or_shifted, shl_whole, pow_pos}
+use Rattle.std.proofs.lemmas.Nat.{field_of, and_mask, or_comm, or_shifted}
 use Rattle.serial.specs.Frame.{bit, weight}
 
 -- one bit by a mask

@@ -1,5 +1,5 @@
 -- The bounds of a format.
-use Rattle.std.proofs.Common.{◌≡◌, ℕ, ◌+◌, ◌*◌, ◌%◌, ◌^◌, ◌<◌, ◌≤◌, Some, None, Option, refl, mod-lt, arith}
+use Rattle.std.proofs.Common.{ℕ, ◌^◌, ◌<◌, ◌≤◌, Some, None, Option, mod-lt, arith}
 use lib.Count.{ones}
 use Rattle.std.proofs.lemmas.Nat.{pow_pos}
 use Rattle.serial.specs.declared.parity.Parity.{Parity}

@@ -1,5 +1,5 @@
 -- The frame of a word, bit by bit.
-use Rattle.std.proofs.Common.{◌≡◌, ℕ, zero, suc, ◌+◌, ◌-◌, ◌*◌, ◌/◌, ◌%◌, ◌^◌, ◌<◌, ◌≤◌, Bool, true, false, eqb, Some, None, Option, sym, refl, ap, ◌∙◌, subst, mod-lt, mul_assoc, div-one, arith, pow_pos, pow-add, shr-shr}
+use Rattle.std.proofs.Common.{◌≡◌, ℕ, zero, suc, ◌+◌, ◌-◌, ◌*◌, ◌/◌, ◌%◌, ◌^◌, ◌<◌, ◌≤◌, eqb, Some, None, Option, sym, refl, ap, ◌∙◌, subst, div-one, arith, pow_pos, pow-add, shr-shr}
 use lib.Bits.{bit_or}
 use lib.Count.{ones}
 use lib.Arith.{digits_div, digits_mod, digits_lt}
@@ -8,10 +8,10 @@ use Rattle.serial.specs.declared.parity.Parity.{Parity}
 use Rattle.serial.specs.declared.parity.Parity.TheVariants.{Odd, Even, Mark, Space}
 use Rattle.serial.specs.declared.format.Format.{Format}
 use Rattle.serial.specs.Parity.{parity_bit}
-use Rattle.serial.specs.Format.{data_bits, parity_bits, stop_bits, stop_at, frame_bits, cut}
+use Rattle.serial.specs.Format.{data_bits, parity_bits, stop_bits, stop_at, cut}
 use Rattle.serial.specs.Frame.{bit, weight, check_bit, packed, frame, ParityLaw, CheckLaw, FrameLaw}
 use Rattle.serial.proofs.Bits.{bit_low, weight_bit, or_above}
-use Rattle.serial.proofs.Formats.{data_bounds, stop_bounds, parity_bounds, check_bit_low, cut_low, stop_at_bounds}
+use Rattle.serial.proofs.Formats.{data_bounds, stop_bounds, parity_bounds, check_bit_low, cut_low}
 
 -- in numbers: n data bits, p parity bits, s stop bits, the word w, the parity bit q
 module _ (n p w q : ℕ) (w_low : w < 2 ^ n) (q_low : q < 2 ^ p) where

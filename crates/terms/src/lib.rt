@@ -1,5 +1,7 @@
 // The words in which a chip is asked and answers: channels, registers and modem lines; notes, reports and refusals.
 // Each enum has one definition in specs/ that gives its cases their numbers.
+#![tactic(auto)]
+
 pub mod channel_id;
 pub mod modem_line;
 pub mod note;

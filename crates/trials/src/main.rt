@@ -1,4 +1,5 @@
 // Plays random histories on the first model and on the second, and compares everything that they answer.
+#![tactic(auto)]
 
 mod call;
 mod codes;

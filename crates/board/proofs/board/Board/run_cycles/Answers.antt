@@ -1,6 +1,5 @@
-use Rattle.std.proofs.Common.{◌≡◌, ℕ, ap, ◌∙◌, subst, arith}
+use Rattle.std.proofs.Common.{◌≡◌, ℕ, subst, arith}
 use Rattle.board.specs.Board.{state}
-use Rattle.board.specs.Sweep.{cycles}
 use Rattle.board.proofs.Sweeps.{Sweeping, sweeping_none, sweeping_again, sweeping_all}
 use Rattle.board.proofs.board.Board.run_cycles.Goals as goal
 
@@ -11,7 +10,7 @@ pub loop-i-preserved : goal.loop-i-preserved
 loop-i-preserved g c =
     let f = g.A.Line.levels in
     let h = g.B.Line.levels in
-    let r = c.record-cycle-written in
+    let r = c.record_cycle-written in
     sweeping_again c.loop-i.i (state f h c.args.self.now) c.args.records.now (state f h c.loop-i.self) c.loop-i.records c.loop-i.written
     c.loop-i.invariant (omega arith) _ r.new.records r.result r.ensures.leaves r.ensures.counts r.ensures.writes
 

@@ -6,10 +6,10 @@ pub returns : goal.returns
 returns g c =
     let f = g.A.Line.levels in
     let h = g.B.Line.levels in
-    let done = c.try-set-up.ensures in
+    let done = c.try_set_up.ensures in
     record {
       answers = done.answers;
       refusals = done.refusals;
       leaves = done.leaves;
-      delivery = delivers c.args.cr c.args.fr (state f h c.args.self.now) _ c.try-set-up.result done.answers done.leaves;
+      delivery = delivers c.args.cr c.args.fr (state f h c.args.self.now) _ c.try_set_up.result done.answers done.leaves;
     }

@@ -2,4 +2,4 @@ use Rattle.dacia.proofs.Separations.{separated}
 use Rattle.dacia.proofs.chip.PoweredChip.reset.Goals as goal
 
 pub returns : goal.returns
-returns c = record { is = c.first-reset.ensures; separation = separated _ }
+returns c = record { is = c.first_reset.ensures; separation = separated _ }
