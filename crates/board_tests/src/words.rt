@@ -77,8 +77,8 @@ fn format_of(size: Size, parity: u8, control: (u8, u8)) -> Format {
 
 // Word by word channel 1 sends 0 to 255, and channel 2 sends 255 to 0.
 fn send<A: Line, B: Line>(rt: &impl Abort, board: &mut Board<A, B>, word: u8) -> Result<(), Fail> {
-    assert_eq!(rt; board.write(3, word)?, WriteNote::Stored);
-    assert_eq!(rt; board.write(7, 255 - word)?, WriteNote::Stored);
+    assert_eq!(rt; board.write(3, word)?, WriteNote::Stored, "{}", word);
+    assert_eq!(rt; board.write(7, 255 - word)?, WriteNote::Stored, "{}", word);
     Ok(())
 }
 
@@ -97,12 +97,12 @@ fn hear<A: Line, B: Line>(
         kind: ReportKind::Kept,
         word,
     };
-    assert_eq!(rt; report, kept);
+    assert_eq!(rt; report, kept, "at select {}", select);
     let fresh = Reading {
         byte: word,
         note: ReadNote::Fresh,
     };
-    assert_eq!(rt; board.read(select)?, fresh);
+    assert_eq!(rt; board.read(select)?, fresh, "at select {}", select);
     Ok(true)
 }
 
@@ -156,14 +156,14 @@ fn carries<A: Line, B: Line>(
     };
     for frame in 0..FRAMES {
         if frame < WORDS {
-            send(rt, board, frame as u8).note(frame)?;
+            send(rt, board, frame as u8)?;
         }
         heard = run_frame(rt, board, format, heard)?;
     }
     // 256 words each, so that the count of each is back at 0
-    assert_eq!(rt; heard.all, 512);
-    assert_eq!(rt; heard.one, 0);
-    assert_eq!(rt; heard.two, 0);
+    assert_eq!(rt; heard.all, 512, "CR {} FR {}", format.cr, format.fr);
+    assert_eq!(rt; heard.one, 0, "CR {} FR {}", format.cr, format.fr);
+    assert_eq!(rt; heard.two, 0, "CR {} FR {}", format.cr, format.fr);
     Ok(())
 }
 
@@ -172,7 +172,7 @@ fn carries_all<A: Line, B: Line>(rt: &impl Abort, board: &mut Board<A, B>) -> Re
         for parity in PARITIES {
             for control in CONTROLS {
                 let format = format_of(size, parity, control);
-                carries(rt, board, format).note(format_args!("CR {} FR {}", format.cr, format.fr))?;
+                carries(rt, board, format)?;
             }
         }
     }

@@ -1,6 +1,7 @@
 // A chip on the bench: one channel of it is under test, and the RxD of the other stays high.
 use channel::channel::ChannelAnswer;
 use dacia::chip::{Chip, Inputs, PoweredChip};
+use std::process::Abort;
 use std::test::*;
 use terms::channel_id::ChannelId;
 use terms::modem_line::ModemLine;
@@ -127,7 +128,9 @@ fn first_on_top(count: u8, bits: u16) -> u16 {
 #[derive(Drop)]
 pub(crate) struct Bench {
     chip: Chip,
-    channel: ChannelId,
+    pub(crate) channel: ChannelId,
+    // the step of a script or the value of a table that is being tried, for the message of a failed assertion
+    pub(crate) at: usize,
 }
 
 impl Bench {
@@ -136,6 +139,7 @@ impl Bench {
         Bench {
             chip: PoweredChip::power_on().reset(),
             channel,
+            at: 0,
         }
     }
 
@@ -258,54 +262,84 @@ impl Bench {
     }
 
     // Cycles marked TxC, with one level on TxD in all of them.
-    pub(crate) fn sends_level(&mut self, level: bool, ticks: u16) -> Result<(), Fail> {
+    pub(crate) fn sends_level(
+        &mut self,
+        rt: &impl Abort,
+        level: bool,
+        ticks: u16,
+    ) -> Result<(), Fail> {
         for tick in 0..ticks {
-            assert_eq!(self.tick(), level, "{}", tick);
+            assert_eq!(rt;
+                self.tick(),
+                level,
+                "TxD {} in tick {} at {}",
+                self.channel.number(),
+                tick,
+                self.at
+            );
         }
         Ok(())
     }
 
     // The last `count` bits of a number on TxD, the first of them first, each for 16 ticks.
-    pub(crate) fn sends_bits(&mut self, count: u8, bits: u16) -> Result<(), Fail> {
+    pub(crate) fn sends_bits(&mut self, rt: &impl Abort, count: u8, bits: u16) -> Result<(), Fail> {
         let mut rest = first_on_top(count, bits);
         for _ in 0..count {
-            self.sends_level(rest >= TOP, 16)?;
+            self.sends_level(rt, rest >= TOP, 16)?;
             rest = rest % TOP * 2;
         }
         Ok(())
     }
 
     // A frame on TxD.
-    pub(crate) fn sends_frame(&mut self, frame: Frame) -> Result<(), Fail> {
-        self.sends_level(LOW, 16)?;
+    pub(crate) fn sends_frame(&mut self, rt: &impl Abort, frame: Frame) -> Result<(), Fail> {
+        self.sends_level(rt, LOW, 16)?;
         let mut rest = frame.word;
         for _ in 0..frame.bits {
-            self.sends_level(rest % 2 == 1, 16)?;
+            self.sends_level(rt, rest % 2 == 1, 16)?;
             rest = rest / 2;
         }
         if let Some(parity) = frame.parity {
-            self.sends_level(parity, 16)?;
+            self.sends_level(rt, parity, 16)?;
         }
         for _ in 0..frame.stops {
-            self.sends_level(HIGH, 16)?;
+            self.sends_level(rt, HIGH, 16)?;
         }
         Ok(())
     }
 
-    pub(crate) fn isr_is(&mut self, byte: u8) -> Result<(), Fail> {
+    pub(crate) fn isr_is(&mut self, rt: &impl Abort, byte: u8) -> Result<(), Fail> {
         let reading = self.read(ISR)?;
-        assert_eq!(reading.byte, byte, "ISR");
+        assert_eq!(rt;
+            reading.byte,
+            byte,
+            "ISR{} at {}",
+            self.channel.number(),
+            self.at
+        );
         Ok(())
     }
 
-    pub(crate) fn rdr_is(&mut self, byte: u8, note: ReadNote) -> Result<(), Fail> {
+    pub(crate) fn rdr_is(&mut self, rt: &impl Abort, byte: u8, note: ReadNote) -> Result<(), Fail> {
         let reading = self.read(RDR)?;
-        assert_eq!(reading, Reading { byte, note }, "RDR");
+        assert_eq!(rt;
+            reading,
+            Reading { byte, note },
+            "RDR{} at {}",
+            self.channel.number(),
+            self.at
+        );
         Ok(())
     }
 
-    pub(crate) fn irq_is(&self, level: bool) -> Result<(), Fail> {
-        assert_eq!(self.chip.irq(self.channel), level, "IRQ");
+    pub(crate) fn irq_is(&self, rt: &impl Abort, level: bool) -> Result<(), Fail> {
+        assert_eq!(rt;
+            self.chip.irq(self.channel),
+            level,
+            "IRQ{} at {}",
+            self.channel.number(),
+            self.at
+        );
         Ok(())
     }
 }

@@ -82,15 +82,16 @@ impl Cause {
 }
 
 #[test]
-fn a_source_requests_only_while_it_is_enabled() -> Result<(), Fail> {
+fn a_source_requests_only_while_it_is_enabled(rt: HostRuntime) -> Result<(), Fail> {
     for channel in CHANNELS {
         for cause in CAUSES {
             for enabled in 0..128u8 {
                 let mut bench = Bench::clocked(channel, EVEN)?;
                 bench.write(IER, 0x80 | enabled)?;
-                bench.irq_is(HIGH)?;
+                bench.irq_is(&rt, HIGH)?;
                 cause.happen(&mut bench)?;
-                bench.irq_is(enabled & cause.sources() == 0).note(enabled)?;
+                bench.at = usize::from(enabled);
+                bench.irq_is(&rt, enabled & cause.sources() == 0)?;
             }
         }
     }
@@ -99,7 +100,7 @@ fn a_source_requests_only_while_it_is_enabled() -> Result<(), Fail> {
 
 // Sources are enabled and disabled one by one, and the others stay as they were.
 #[test]
-fn ier_enables_and_disables_single_sources() -> Result<(), Fail> {
+fn ier_enables_and_disables_single_sources(rt: HostRuntime) -> Result<(), Fail> {
     for channel in CHANNELS {
         for cause in CAUSES {
             for disabled in 0..128u8 {
@@ -109,9 +110,8 @@ fn ier_enables_and_disables_single_sources() -> Result<(), Fail> {
                 }
                 bench.write(IER, disabled)?;
                 cause.happen(&mut bench)?;
-                bench
-                    .irq_is(cause.sources() & !disabled == 0)
-                    .note(disabled)?;
+                bench.at = usize::from(disabled);
+                bench.irq_is(&rt, cause.sources() & !disabled == 0)?;
             }
         }
     }
@@ -120,19 +120,20 @@ fn ier_enables_and_disables_single_sources() -> Result<(), Fail> {
 
 // Disabling a source drops its request for good.
 #[test]
-fn a_disabled_source_loses_its_request() -> Result<(), Fail> {
+fn a_disabled_source_loses_its_request(rt: HostRuntime) -> Result<(), Fail> {
     for channel in CHANNELS {
         for cause in CAUSES {
             for disabled in 0..128u8 {
                 let mut bench = Bench::clocked(channel, EVEN)?;
                 bench.write(IER, 0xff)?;
                 cause.happen(&mut bench)?;
-                bench.irq_is(LOW)?;
+                bench.irq_is(&rt, LOW)?;
                 let all_dropped = cause.sources() & !disabled == 0;
                 bench.write(IER, disabled)?;
-                bench.irq_is(all_dropped).note(disabled)?;
+                bench.at = usize::from(disabled);
+                bench.irq_is(&rt, all_dropped)?;
                 bench.write(IER, 0xff)?;
-                bench.irq_is(all_dropped).note(disabled)?;
+                bench.irq_is(&rt, all_dropped)?;
             }
         }
     }
@@ -146,7 +147,7 @@ fn a_source_that_is_set_already_makes_no_request(rt: HostRuntime) -> Result<(), 
             let mut bench = Bench::clocked(channel, EVEN)?;
             cause.happen(&mut bench)?;
             bench.write(IER, 0xff)?;
-            bench.irq_is(HIGH)?;
+            bench.irq_is(&rt, HIGH)?;
         }
     }
     // a second change of an input whose first one ISR still shows
@@ -199,18 +200,18 @@ fn a_read_of_isr_drops_every_request(rt: HostRuntime) -> Result<(), Fail> {
 
 // Each source alone: a read of ISR drops its request, and one of RDR if it clears the source.
 #[test]
-fn reads_drop_the_request_of_a_single_source() -> Result<(), Fail> {
+fn reads_drop_the_request_of_a_single_source(rt: HostRuntime) -> Result<(), Fail> {
     for channel in CHANNELS {
         for cause in CAUSES {
             let mut bench = Bench::clocked(channel, EVEN)?;
             bench.write(IER, 0xff)?;
             cause.happen(&mut bench)?;
             bench.read(CSR)?;
-            bench.irq_is(LOW)?;
+            bench.irq_is(&rt, LOW)?;
             bench.read(RDR)?;
-            bench.irq_is(cause.sources() & 0x07 != 0)?;
+            bench.irq_is(&rt, cause.sources() & 0x07 != 0)?;
             bench.read(ISR)?;
-            bench.irq_is(HIGH)?;
+            bench.irq_is(&rt, HIGH)?;
         }
     }
     Ok(())
@@ -272,14 +273,14 @@ fn tdre_does_not_request_when_cts_falls(rt: HostRuntime) -> Result<(), Fail> {
 
 // It clears RDRF and leaves PAR and F/O/B.
 #[test]
-fn a_write_to_cdr_drops_the_request_of_rdrf() -> Result<(), Fail> {
+fn a_write_to_cdr_drops_the_request_of_rdrf(rt: HostRuntime) -> Result<(), Fail> {
     for channel in CHANNELS {
         for cause in CAUSES {
             let mut bench = Bench::clocked(channel, EVEN)?;
             bench.write(IER, 0xff)?;
             cause.happen(&mut bench)?;
             bench.write(CDR, 0x00)?;
-            bench.irq_is(cause.sources() == 0x01)?;
+            bench.irq_is(&rt, cause.sources() == 0x01)?;
         }
     }
     Ok(())

@@ -56,26 +56,35 @@ fn right_bit(parity: Parity, word: u8) -> bool {
 }
 
 // Sends each word, with the next one right behind it.
-fn sends_each_word(bench: &mut Bench, length: Length, parity: Parity) -> Result<(), Fail> {
+fn sends_each_word(
+    rt: &impl Abort,
+    bench: &mut Bench,
+    length: Length,
+    parity: Parity,
+) -> Result<(), Fail> {
     for word in 0..=length.greatest {
         bench.write(TDR, word)?;
-        bench.sends_frame(Frame {
-            word,
-            bits: length.bits,
-            parity: Some(right_bit(parity, word)),
-            stops: 1,
-        })?;
+        bench.sends_frame(
+            rt,
+            Frame {
+                word,
+                bits: length.bits,
+                parity: Some(right_bit(parity, word)),
+                stops: 1,
+            },
+        )?;
     }
     Ok(())
 }
 
 #[test]
-fn the_parity_bit_is_sent() -> Result<(), Fail> {
+fn the_parity_bit_is_sent(rt: HostRuntime) -> Result<(), Fail> {
     for channel in CHANNELS {
         for length in LENGTHS {
             for (fr, parity) in PARITIES {
                 let mut bench = Bench::clocked(channel, length.fr | fr)?;
-                sends_each_word(&mut bench, length, parity).note(fr)?;
+                bench.at = usize::from(fr);
+                sends_each_word(&rt, &mut bench, length, parity)?;
             }
         }
     }
@@ -84,18 +93,21 @@ fn the_parity_bit_is_sent() -> Result<(), Fail> {
 
 // The bits above the length count for nothing.
 #[test]
-fn the_parity_is_that_of_the_cut_word() -> Result<(), Fail> {
+fn the_parity_is_that_of_the_cut_word(rt: HostRuntime) -> Result<(), Fail> {
     for channel in CHANNELS {
         for (fr, parity) in PARITIES {
             let mut bench = Bench::clocked(channel, 0x84 | fr)?;
             for word in 0..=255 {
                 bench.write(TDR, word)?;
-                bench.sends_frame(Frame {
-                    word,
-                    bits: 5,
-                    parity: Some(right_bit(parity, word % 32)),
-                    stops: 1,
-                })?;
+                bench.sends_frame(
+                    &rt,
+                    Frame {
+                        word,
+                        bits: 5,
+                        parity: Some(right_bit(parity, word % 32)),
+                        stops: 1,
+                    },
+                )?;
             }
         }
     }
@@ -117,9 +129,9 @@ fn hears_word_with(
         parity: Some(bit),
         stops: 1,
     };
-    assert_eq!(rt; bench.hears_frame(frame), kept(word));
-    bench.isr_is(if par { 0xc5 } else { 0xc1 })?;
-    bench.rdr_is(word, ReadNote::Fresh)
+    assert_eq!(rt; bench.hears_frame(frame), kept(word), "at {}", bench.at);
+    bench.isr_is(rt, if par { 0xc5 } else { 0xc1 })?;
+    bench.rdr_is(rt, word, ReadNote::Fresh)
 }
 
 // Hears each word with the right and with the wrong parity bit. PAR tells a wrong one, or is the bit itself.
@@ -148,7 +160,8 @@ fn par_is_a_wrong_parity_bit_or_the_bit_itself(rt: HostRuntime) -> Result<(), Fa
                 for (acr, shows_bit) in [(0x00, false), (0x01, true)] {
                     let mut bench = Bench::clocked(channel, length.fr | fr)?;
                     bench.write_acr(acr)?;
-                    hears_each_word(&rt, &mut bench, length, parity, shows_bit).note(fr)?;
+                    bench.at = usize::from(fr);
+                    hears_each_word(&rt, &mut bench, length, parity, shows_bit)?;
                 }
             }
         }
@@ -166,8 +179,8 @@ fn par_is_0_without_parity(rt: HostRuntime) -> Result<(), Fail> {
                 bench.write_acr(acr)?;
                 for word in 0..=255 {
                     assert_eq!(rt; bench.hears_word(word), kept(word));
-                    bench.isr_is(0xc1)?;
-                    bench.rdr_is(word, ReadNote::Fresh)?;
+                    bench.isr_is(&rt, 0xc1)?;
+                    bench.rdr_is(&rt, word, ReadNote::Fresh)?;
                 }
             }
         }

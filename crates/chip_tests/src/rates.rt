@@ -32,7 +32,13 @@ fn falls_in_cycle(
     marks: Marks,
 ) -> Result<(), Fail> {
     for cycle in 1..=number {
-        assert_eq!(rt; bench.cycle(HIGH, marks).txd, cycle < number, "{}", cycle);
+        assert_eq!(rt;
+            bench.cycle(HIGH, marks).txd,
+            cycle < number,
+            "{} at {}",
+            cycle,
+            bench.at
+        );
     }
     Ok(())
 }
@@ -58,8 +64,9 @@ fn falls_though_written(
         assert_eq!(rt;
             bench.cycle(HIGH, UNMARKED).txd,
             cycle < number,
-            "{}",
-            cycle
+            "{} at {}",
+            cycle,
+            bench.at
         );
     }
     Ok(())
@@ -74,7 +81,8 @@ fn the_first_tick_comes_at_the_divisor(rt: HostRuntime) -> Result<(), Fail> {
                 let mut bench = Bench::new(channel);
                 bench.write(CR, code)?;
                 bench.write(TDR, 0x01)?;
-                falls_in_cycle(&rt, &mut bench, divisor, marks).note(code)?;
+                bench.at = usize::from(code);
+                falls_in_cycle(&rt, &mut bench, divisor, marks)?;
             }
         }
     }
@@ -131,7 +139,8 @@ fn another_rate_code_restarts_the_count(rt: HostRuntime) -> Result<(), Fail> {
                         bench.cycle(HIGH, UNMARKED);
                     }
                     bench.write(CR, other)?;
-                    falls_in_cycle(&rt, &mut bench, other_divisor, UNMARKED).note(other)?;
+                    bench.at = usize::from(other);
+                    falls_in_cycle(&rt, &mut bench, other_divisor, UNMARKED)?;
                 }
             }
         }
@@ -151,7 +160,8 @@ fn rate_code_15_and_back_restarts_the_count(rt: HostRuntime) -> Result<(), Fail>
             bench.write(CR, 0x0f)?;
             bench.write(CR, code)?;
             bench.write(TDR, 0x01)?;
-            falls_in_cycle(&rt, &mut bench, divisor, UNMARKED).note(code)?;
+            bench.at = usize::from(code);
+            falls_in_cycle(&rt, &mut bench, divisor, UNMARKED)?;
         }
     }
     Ok(())
@@ -164,7 +174,8 @@ fn the_same_rate_code_leaves_the_count(rt: HostRuntime) -> Result<(), Fail> {
             let mut bench = Bench::new(channel);
             bench.write(CR, code)?;
             bench.write(TDR, 0x01)?;
-            falls_though_written(&rt, &mut bench, code, divisor).note(code)?;
+            bench.at = usize::from(code);
+            falls_though_written(&rt, &mut bench, code, divisor)?;
         }
     }
     Ok(())
@@ -209,7 +220,7 @@ fn with_code_15_the_receiver_ticks_on_rxc_alone(rt: HostRuntime) -> Result<(), F
             assert_eq!(rt; bench.cycle(LOW, TXC).report, NO_REPORT);
         }
         assert_eq!(rt; bench.cycle(HIGH, RXC).report, kept(0xff));
-        bench.rdr_is(0xff, ReadNote::Fresh)?;
+        bench.rdr_is(&rt, 0xff, ReadNote::Fresh)?;
     }
     Ok(())
 }

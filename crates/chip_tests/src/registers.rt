@@ -15,20 +15,23 @@ const LENGTHS: [(u8, u8, u8); 4] = [
 
 // FR bits 6-5 and TDR: each word is sent cut to its data bits, with the next one right behind it.
 #[test]
-fn each_word_is_sent_cut_to_its_length() -> Result<(), Fail> {
+fn each_word_is_sent_cut_to_its_length(rt: HostRuntime) -> Result<(), Fail> {
     for channel in CHANNELS {
         for (fr, bits, _) in LENGTHS {
             let mut bench = Bench::clocked(channel, fr)?;
             for word in 0..=255 {
                 bench.write(TDR, word)?;
-                bench.sends_frame(Frame {
-                    word,
-                    bits,
-                    parity: None,
-                    stops: 1,
-                })?;
+                bench.sends_frame(
+                    &rt,
+                    Frame {
+                        word,
+                        bits,
+                        parity: None,
+                        stops: 1,
+                    },
+                )?;
             }
-            bench.sends_level(HIGH, 200)?;
+            bench.sends_level(&rt, HIGH, 200)?;
         }
     }
     Ok(())
@@ -48,7 +51,7 @@ fn each_word_is_kept_at_its_length(rt: HostRuntime) -> Result<(), Fail> {
                     stops: 1,
                 };
                 assert_eq!(rt; bench.hears_frame(frame), kept(word));
-                bench.rdr_is(word, ReadNote::Fresh)?;
+                bench.rdr_is(&rt, word, ReadNote::Fresh)?;
             }
         }
     }
@@ -57,19 +60,22 @@ fn each_word_is_kept_at_its_length(rt: HostRuntime) -> Result<(), Fail> {
 
 // CR bit 5: the next frame comes behind one stop bit or behind two.
 #[test]
-fn cr_bit_5_makes_two_stop_bits() -> Result<(), Fail> {
+fn cr_bit_5_makes_two_stop_bits(rt: HostRuntime) -> Result<(), Fail> {
     for channel in CHANNELS {
         for (cr, stops) in [(0x0f, 1), (0x2f, 2)] {
             let mut bench = Bench::clocked(channel, 0xe0)?;
             bench.write(CR, cr)?;
             for word in [0x41, 0x00, 0xff] {
                 bench.write(TDR, word)?;
-                bench.sends_frame(Frame {
-                    word,
-                    bits: 8,
-                    parity: None,
-                    stops,
-                })?;
+                bench.sends_frame(
+                    &rt,
+                    Frame {
+                        word,
+                        bits: 8,
+                        parity: None,
+                        stops,
+                    },
+                )?;
             }
         }
     }

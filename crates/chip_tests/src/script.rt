@@ -43,11 +43,41 @@ fn take(rt: &impl Abort, bench: &mut Bench, heard: Report, step: Step) -> Result
         Step::Hears(level, ticks) => return Ok(bench.hear(level, ticks)),
         Step::HearsBits(count, bits) => return Ok(bench.hears_bits(count, bits)),
         Step::HearsWord(word) => return Ok(bench.hears_word(word)),
-        Step::Kept(word) => assert_eq!(rt; heard, kept(word)),
-        Step::Lost(word) => assert_eq!(rt; heard, lost(word)),
-        Step::Passed(word) => assert_eq!(rt; heard, passed(word)),
-        Step::Broken => assert_eq!(rt; heard, BREAK),
-        Step::Silent => assert_eq!(rt; heard, NO_REPORT),
+        Step::Kept(word) => assert_eq!(rt;
+            heard,
+            kept(word),
+            "channel {} at {}",
+            bench.channel.number(),
+            bench.at
+        ),
+        Step::Lost(word) => assert_eq!(rt;
+            heard,
+            lost(word),
+            "channel {} at {}",
+            bench.channel.number(),
+            bench.at
+        ),
+        Step::Passed(word) => assert_eq!(rt;
+            heard,
+            passed(word),
+            "channel {} at {}",
+            bench.channel.number(),
+            bench.at
+        ),
+        Step::Broken => assert_eq!(rt;
+            heard,
+            BREAK,
+            "channel {} at {}",
+            bench.channel.number(),
+            bench.at
+        ),
+        Step::Silent => assert_eq!(rt;
+            heard,
+            NO_REPORT,
+            "channel {} at {}",
+            bench.channel.number(),
+            bench.at
+        ),
         _ => access(rt, bench, step)?,
     }
     Ok(heard)
@@ -60,25 +90,40 @@ fn access(rt: &impl Abort, bench: &mut Bench, step: Step) -> Result<(), Fail> {
             bench.write(register, byte)?;
         }
         Step::Stored(word) => {
-            assert_eq!(rt; bench.write(TDR, word)?, WriteNote::Stored);
-            return Ok(())
-        },
+            assert_eq!(rt;
+                bench.write(TDR, word)?,
+                WriteNote::Stored,
+                "channel {} at {}",
+                bench.channel.number(),
+                bench.at
+            );
+        }
         Step::Replaced(word) => {
-            assert_eq!(rt; bench.write(TDR, word)?, WriteNote::Replaced);
-            return Ok(())
-        },
+            assert_eq!(rt;
+                bench.write(TDR, word)?,
+                WriteNote::Replaced,
+                "channel {} at {}",
+                bench.channel.number(),
+                bench.at
+            );
+        }
         Step::Read(register, byte) => {
-            assert_eq!(rt; bench.read(register)?.byte, byte);
-            return Ok(())
-        },
-        Step::Fresh(word) => return bench.rdr_is(word, ReadNote::Fresh),
-        Step::Old(word) => return bench.rdr_is(word, ReadNote::Old),
+            assert_eq!(rt;
+                bench.read(register)?.byte,
+                byte,
+                "channel {} at {}",
+                bench.channel.number(),
+                bench.at
+            );
+        }
+        Step::Fresh(word) => return bench.rdr_is(rt, word, ReadNote::Fresh),
+        Step::Old(word) => return bench.rdr_is(rt, word, ReadNote::Old),
         Step::Modem(line, level) => bench.modem(line, level),
         Step::Reset => bench.reset(),
-        Step::Irq(level) => return bench.irq_is(level),
-        Step::Sends(level, ticks) => return bench.sends_level(level, ticks),
-        Step::SendsBits(count, bits) => return bench.sends_bits(count, bits),
-        Step::SendsWord(word) => return bench.sends_frame(plain(word)),
+        Step::Irq(level) => return bench.irq_is(rt, level),
+        Step::Sends(level, ticks) => return bench.sends_level(rt, level, ticks),
+        Step::SendsBits(count, bits) => return bench.sends_bits(rt, count, bits),
+        Step::SendsWord(word) => return bench.sends_frame(rt, plain(word)),
         _ => {}
     }
     Ok(())
@@ -87,10 +132,8 @@ fn access(rt: &impl Abort, bench: &mut Bench, step: Step) -> Result<(), Fail> {
 pub(crate) fn play(rt: &impl Abort, bench: &mut Bench, steps: &[Step]) -> Result<(), Fail> {
     let mut heard = NO_REPORT;
     for (place, next) in steps.iter().enumerate() {
-        match take(rt, bench, heard, *next) {
-            Ok(report) => heard = report,
-            Err(fail) => return Err(fail).note(format_args!("step {place}")),
-        }
+        bench.at = place;
+        heard = take(rt, bench, heard, *next)?;
     }
     Ok(())
 }
@@ -99,7 +142,7 @@ pub(crate) fn play(rt: &impl Abort, bench: &mut Bench, steps: &[Step]) -> Result
 pub(crate) fn play_at(rt: &impl Abort, fr: u8, steps: &[Step]) -> Result<(), Fail> {
     for channel in CHANNELS {
         let mut bench = Bench::clocked(channel, fr)?;
-        play(rt, &mut bench, steps).note(format_args!("channel {}", channel.number()))?;
+        play(rt, &mut bench, steps)?;
     }
     Ok(())
 }
