@@ -1,14 +1,14 @@
 -- A line read by its places is the line read byte by byte.
-use Rattle.std.proofs.Common.{◌≡◌, ℕ, zero, suc, ◌+◌, ◌<◌, ◌≤◌, Bool, true, false, cond, eqb, List, [], ◌∷◌, ◌++◌, length, take, drop, Some, None, Ok, Err, Option, Result, sym, refl, ap, ◌∙◌, subst, append_assoc, add-suc, arith, length-take}
+use Rattle.std.proofs.Common.{◌≡◌, ℕ, suc, ◌+◌, ◌<◌, ◌≤◌, Bool, true, false, cond, eqb, List, [], ◌∷◌, ◌++◌, length, take, drop, Some, None, Ok, Err, Option, Result, sym, refl, ap, ◌∙◌, append_assoc, add-suc, arith, length-take}
 use Rattle.std.specs.Option.{ok_or, option_map}
 use Rattle.script_words.specs.declared.command.Command.{Command}
 use Rattle.script_words.specs.declared.command.Placed.{Placed}
 use Rattle.script_words.specs.declared.fault.Fault.{Fault}
 use Rattle.script_lines.specs.declared.token.Token.{Token}
 use Rattle.script_words.specs.declared.word.Word.{Word}
-use Rattle.script_words.specs.Format.{Spot, only, Value, Rest, begins, ends, next, word, Letter, R, W, C, L, S, letter, after, fits, misfits, goes, says, goes_on, misfit_at, first_line, placed, before, read}
+use Rattle.script_words.specs.Format.{Spot, only, Value, Rest, begins, ends, next, Letter, R, W, C, L, S, letter, after, fits, misfits, goes, says, goes_on, misfit_at, first_line, placed, before, read}
 use Rattle.script_lines.specs.Token.{word_of, letter_of, width, Piece, piece_of, first_piece, token_says}
-use Rattle.script_words.specs.Word.{nth, and_then, spot_at, line_at, first_line_at}
+use Rattle.script_words.specs.Word.{nth, and_then, line_at, first_line_at}
 use Rattle.script_words.proofs.Places.{nth_none, nth_some, nth_take, drop_next, drop_taken}
 
 -- a line that takes n bytes more

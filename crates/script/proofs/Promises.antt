@@ -1,19 +1,17 @@
 -- What the definition of the format promises of every answer.
-use Rattle.std.proofs.Common.{◌≡◌, ℕ, ◌<◌, ◌≤◌, Bool, true, false, cond, eqb, List, [], ◌∷◌, ◌++◌, length, is_ok, Ok, Err, vec_items, Result, Vec, sym, refl, ap, ◌∙◌, subst, ⊎_elim, append_assoc, arith}
+use Rattle.std.proofs.Common.{◌≡◌, ℕ, ◌≤◌, Bool, true, false, cond, eqb, List, [], ◌∷◌, ◌++◌, length, is_ok, Ok, Err, vec_items, Result, Vec, sym, refl, ap, ◌∙◌, subst, ⊎_elim, append_assoc, arith}
 use Rattle.std.proofs.lemmas.Bool.{cases_lt, eq-eqb, ne_eqb, true≢false}
 use Rattle.std.specs.declared.alloc.Global.{Global}
 use Rattle.script_words.specs.Refusal.{script_refusal_number}
 use Rattle.script_words.specs.declared.refusal.ScriptRefusal.TheVariants.{BadFirstLine, BadScript, ScriptTooLong}
-use Rattle.script_words.specs.declared.command.Command.{Command}
 use Rattle.script_words.specs.declared.command.Placed.{Placed}
 use Rattle.script_words.specs.declared.fault.Fault.{Fault}
 use Rattle.script_words.specs.declared.fault.ScriptError.{ScriptError}
 use Rattle.script_words.specs.declared.fault.ScriptError.TheVariants.{Fault as Faulty, OutOfMemory}
 use Rattle.script.specs.Answer.{Gives}
-use Rattle.script_words.specs.Format.{first_line, misfit_at, read, script_says, most}
-use Rattle.script.specs.Laws.{HasFirstLine, Script, Opens, RoundTrip, WrittenBack, Stops, Misfit, TooLong, Faults}
-use Rattle.script.specs.Writing.{written_script, AllSayable, at_lines}
-use Rattle.script.proofs.Misfits.{accepts, accepts_read, plain_first, Halts, Stop, stop, fault_line}
+use Rattle.script_words.specs.Format.{first_line, read, script_says}
+use Rattle.script.specs.Laws.{HasFirstLine, Script, RoundTrip, WrittenBack, Stops, Misfit, Faults}
+use Rattle.script.proofs.Misfits.{accepts, accepts_read, plain_first, Halts, stop, fault_line}
 use Rattle.script.proofs.Readings.{short_enough, too_long}
 use Rattle.script.proofs.Scripts.{first_written, written_read, read_written, first_there}
 use Rattle.script.proofs.Spellings.{ok_err}

@@ -1,5 +1,5 @@
 -- The reader's turns: the bytes of the first line, and one line after the other.
-use Rattle.std.proofs.Common.{◌≡◌, ℕ, zero, suc, ◌+◌, ◌<◌, ◌≤◌, true, cond, leb, List, [], ◌∷◌, ◌++◌, length, get_or, drop, Ok, Err, Result, Vec, sym, refl, ap, ◌∙◌, subst, append-nil, add-one, arith}
+use Rattle.std.proofs.Common.{◌≡◌, ℕ, suc, ◌+◌, ◌<◌, ◌≤◌, leb, List, [], ◌∷◌, ◌++◌, length, get_or, drop, Ok, Err, Result, Vec, sym, refl, ap, ◌∙◌, subst, append-nil, add-one}
 use Rattle.std.proofs.lemmas.List.{drop_more, nil_from_length}
 use Rattle.std.proofs.lemmas.Bool.{cond-true, cond-false, le-leb, lt-leb}
 use Rattle.std.specs.declared.alloc.Global.{Global}
@@ -12,7 +12,7 @@ use Rattle.script_words.specs.declared.fault.ScriptError.TheVariants.{Fault as F
 use Rattle.script_lines.specs.declared.token.Token.{Token}
 use Rattle.script_words.specs.declared.word.Word.{Word}
 use Rattle.script.specs.Answer.{Gives, headed}
-use Rattle.script_words.specs.Format.{only, begins, ends, word, first_word, first_line, placed, before, read, script_says}
+use Rattle.script_words.specs.Format.{only, begins, ends, word, first_word, first_line, before, read, script_says}
 use Rattle.script_lines.specs.Token.{word_of, piece_of, first_piece, token_says}
 use Rattle.script_words.specs.Word.{and_then, spot_at, line_at, first_line_at}
 use Rattle.script.proofs.Lines.{onward, begins_with, token_read, no_token, before_none, before_again, first_read}

@@ -1,15 +1,13 @@
 -- Whole scripts: what is written is read, and what is read was written.
-use Rattle.std.proofs.Common.{◌≡◌, ℕ, zero, suc, ◌+◌, ◌*◌, ◌/◌, ◌%◌, ◌<◌, ◌≤◌, Bool, true, false, cond, eqb, ◌⊎◌, List, [], ◌∷◌, ◌++◌, length, Some, None, Ok, Err, Option, Result, sym, refl, ap, ◌∙◌, subst, inl, inr, ⊎_elim, append_assoc, arith, length-append}
+use Rattle.std.proofs.Common.{◌≡◌, ℕ, zero, suc, ◌+◌, ◌*◌, ◌/◌, ◌%◌, ◌<◌, ◌≤◌, Bool, true, false, eqb, ◌⊎◌, List, [], ◌∷◌, ◌++◌, length, Some, None, Ok, Err, Option, Result, sym, refl, ap, ◌∙◌, inl, inr, ⊎_elim, arith, length-append}
 use Rattle.std.proofs.lemmas.Bool.{eqb-true}
 use Rattle.std.proofs.lemmas.Bool.Decides.{nat_tests}
 use Rattle.std.specs.List.{flat_map}
-use Rattle.terms.specs.declared.channel_id.ChannelId.{ChannelId}
-use Rattle.terms.specs.declared.modem_line.ModemLine.{ModemLine}
 use Rattle.script_words.specs.declared.command.Command.{Command}
 use Rattle.script_words.specs.declared.command.Command.TheVariants.{Read, Write, Cycles, Modem, SetUp}
 use Rattle.script_words.specs.declared.command.Placed.{Placed}
 use Rattle.script_words.specs.declared.fault.Fault.{Fault}
-use Rattle.script_words.specs.Format.{Spot, only, Value, Rest, begins, ends, next, word, first_word, first_line, Letter, R, W, C, L, S, letter, after, misfits, goes, says, goes_on, misfit_at, placed, before, read}
+use Rattle.script_words.specs.Format.{begins, ends, word, first_word, first_line, Letter, R, W, C, L, S, letter, after, misfits, goes, says, goes_on, misfit_at, placed, before, read}
 use Rattle.script.specs.Writing.{digit, channel_byte, modem_byte, level_byte, line_end, hex, written, written_script, Sayable, AllSayable, at_lines}
 use Rattle.script.proofs.Lines.{before_none}
 use Rattle.script.proofs.Spellings.{Spelt, spelt_read, Line, Inside, read_line, read_later, ok_err}

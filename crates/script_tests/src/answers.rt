@@ -3,6 +3,7 @@ use script::reader::read_script;
 use script_words::command::{Command, Placed};
 use script_words::fault::ScriptError;
 use std::alloc::Global;
+use std::fmt::Display;
 use std::process::Abort;
 use std::test::Fail;
 
@@ -28,16 +29,23 @@ pub(crate) fn says(
     Ok(())
 }
 
-// So many commands.
-pub(crate) fn counts(rt: &impl Abort, heap: Global, script: &[u8], due: usize) -> Result<(), Fail> {
+// So many commands; `case` tells the script from others.
+pub(crate) fn counts(
+    rt: &impl Abort,
+    case: &impl Display,
+    heap: Global,
+    script: &[u8],
+    due: usize,
+) -> Result<(), Fail> {
     let got = read_script(heap, script)?;
-    assert_eq!(rt; got.len(), due);
+    assert_eq!(rt; got.len(), due, "{case}");
     Ok(())
 }
 
-// A fault by its number and place.
+// A fault by its number and place; `case` tells the script from others.
 pub(crate) fn faults(
     rt: &impl Abort,
+    case: &impl Display,
     heap: Global,
     script: &[u8],
     number: u8,
@@ -45,12 +53,12 @@ pub(crate) fn faults(
     column: u32,
 ) -> Result<(), Fail> {
     match read_script(heap, script) {
-        Ok(_) => Err(Fail::new("no fault")),
-        Err(ScriptError::OutOfMemory) => Err(Fail::new("out of memory")),
+        Ok(_) => Err(Fail::new(format_args!("no fault: {case}"))),
+        Err(ScriptError::OutOfMemory) => Err(Fail::new(format_args!("out of memory: {case}"))),
         Err(ScriptError::Fault(fault)) => {
-            assert_eq!(rt; fault.refusal.number(), number);
-            assert_eq!(rt; fault.line, line);
-            assert_eq!(rt; fault.column, column);
+            assert_eq!(rt; fault.refusal.number(), number, "{case}");
+            assert_eq!(rt; fault.line, line, "{case}");
+            assert_eq!(rt; fault.column, column, "{case}");
             Ok(())
         }
     }

@@ -39,9 +39,9 @@ fn every_byte_in_the_first_line(rt: HostRuntime) -> Result<(), Fail> {
         for byte in 0..=255u8 {
             let script = changed(rt.alloc(), text, at, byte)?;
             if byte == right {
-                counts(&rt, rt.alloc(), script.as_slice(), 1)?;
+                counts(&rt, &byte, rt.alloc(), script.as_slice(), 1)?;
             } else {
-                faults(&rt, rt.alloc(), script.as_slice(), 8, 1, column).note(byte)?;
+                faults(&rt, &byte, rt.alloc(), script.as_slice(), 8, 1, column)?;
             }
         }
         column = column.wrapping_add(1);
@@ -65,9 +65,9 @@ fn every_byte_in_a_line(rt: HostRuntime) -> Result<(), Fail> {
             for byte in 0..=255u8 {
                 let script = changed(rt.alloc(), text, i.wrapping_add(10), byte)?;
                 if fits(byte, place) {
-                    counts(&rt, rt.alloc(), script.as_slice(), 2).note(text)?;
+                    counts(&rt, &text, rt.alloc(), script.as_slice(), 2)?;
                 } else {
-                    faults(&rt, rt.alloc(), script.as_slice(), 9, 2, column).note(text)?;
+                    faults(&rt, &text, rt.alloc(), script.as_slice(), 9, 2, column)?;
                 }
             }
             column = column.wrapping_add(1);
@@ -82,9 +82,17 @@ fn every_byte_for_a_letter(rt: HostRuntime) -> Result<(), Fail> {
     for byte in 0..=255u8 {
         let script = changed(rt.alloc(), "DUS 0001\nR 1\n", 9, byte)?;
         match byte {
-            b'R' => counts(&rt, rt.alloc(), script.as_slice(), 1)?,
-            b'W' | b'L' | b'C' | b'S' => faults(&rt, rt.alloc(), script.as_slice(), 9, 2, 4)?,
-            _ => faults(&rt, rt.alloc(), script.as_slice(), 9, 2, 1).note(byte)?,
+            b'R' => counts(&rt, &byte, rt.alloc(), script.as_slice(), 1)?,
+            b'W' | b'L' | b'C' | b'S' => faults(
+                &rt,
+                &byte,
+                rt.alloc(),
+                script.as_slice(),
+                9,
+                2,
+                4,
+            )?,
+            _ => faults(&rt, &byte, rt.alloc(), script.as_slice(), 9, 2, 1)?,
         }
     }
     Ok(())
@@ -100,11 +108,19 @@ fn every_cut(rt: HostRuntime) -> Result<(), Fail> {
     for (at, next) in text.bytes().enumerate() {
         let script = cut(rt.alloc(), text, at)?;
         if line > 1 && column == 1 {
-            counts(&rt, rt.alloc(), script.as_slice(), commands)?;
+            counts(&rt, &at, rt.alloc(), script.as_slice(), commands)?;
             commands = commands.wrapping_add(1);
         } else {
             let number = if line == 1 { 8 } else { 9 };
-            faults(&rt, rt.alloc(), script.as_slice(), number, line, column).note(at)?;
+            faults(
+                &rt,
+                &at,
+                rt.alloc(),
+                script.as_slice(),
+                number,
+                line,
+                column,
+            )?;
         }
         if next == b'\n' {
             line = line.wrapping_add(1);
@@ -113,5 +129,5 @@ fn every_cut(rt: HostRuntime) -> Result<(), Fail> {
             column = column.wrapping_add(1);
         }
     }
-    counts(&rt, rt.alloc(), text.as_bytes(), 5)
+    counts(&rt, &text, rt.alloc(), text.as_bytes(), 5)
 }

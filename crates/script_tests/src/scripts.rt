@@ -117,7 +117,7 @@ fn first_lines_that_are_refused_by_8(rt: HostRuntime) -> Result<(), Fail> {
         ("DUS 0001\r\n", 9),
         ("DUS 00010\n", 9),
     ] {
-        faults(&rt, rt.alloc(), text.as_bytes(), 8, 1, column).note(text)?;
+        faults(&rt, &text, rt.alloc(), text.as_bytes(), 8, 1, column)?;
     }
     Ok(())
 }
@@ -143,7 +143,7 @@ fn lines_that_are_refused_by_9(rt: HostRuntime) -> Result<(), Fail> {
         ("DUS 0001\nR 1\n\nR 1\n", 3, 1),
         ("DUS 0001\nDUS 0001\n", 2, 1),
     ] {
-        faults(&rt, rt.alloc(), text.as_bytes(), 9, line, column).note(text)?;
+        faults(&rt, &text, rt.alloc(), text.as_bytes(), 9, line, column)?;
     }
     Ok(())
 }
@@ -170,7 +170,7 @@ fn longer_lines_that_are_refused_by_9(rt: HostRuntime) -> Result<(), Fail> {
         ("DUS 0001\nS 0EE0\n", 2, 5),
         ("DUS 0001\nS 0E E0", 2, 8),
     ] {
-        faults(&rt, rt.alloc(), text.as_bytes(), 9, line, column).note(text)?;
+        faults(&rt, &text, rt.alloc(), text.as_bytes(), 9, line, column)?;
     }
     Ok(())
 }

@@ -1,5 +1,5 @@
 -- The format of a script: what may stand at each place of a line, and what a list of bytes says.
-use Rattle.std.specs.Prelude.{ℕ, zero, suc, ◌+◌, ◌-◌, ◌*◌, Bool, true, false, cond, ◌&&◌, List, [], ◌∷◌, ◌++◌, map, length, Some, None, Ok, Err, codes, Option, Result, ◌==◌, nat_le}
+use Rattle.std.specs.Prelude.{ℕ, suc, ◌+◌, ◌-◌, ◌*◌, Bool, true, false, cond, ◌&&◌, List, [], ◌∷◌, ◌++◌, map, length, Some, None, Ok, Err, codes, Option, Result, ◌==◌, nat_le}
 use Rattle.terms.specs.declared.channel_id.ChannelId.{ChannelId}
 use Rattle.terms.specs.declared.channel_id.ChannelId.TheVariants.{One, Two}
 use Rattle.terms.specs.declared.modem_line.ModemLine.{ModemLine}

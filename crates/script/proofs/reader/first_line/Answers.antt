@@ -7,16 +7,16 @@ use Rattle.script.proofs.reader.first_line.Goals as goal
 pub loop-at-init : goal.loop-at-init
 loop-at-init c = first_none c.args.word
 
-pub returns-in-err-only : goal.returns-in-err-only
-returns-in-err-only c =
-    let p = err_from_is_err_and c.from-residual.result c.from-residual.ensures.1 in
+pub returns-in_err-only : goal.returns-in_err-only
+returns-in_err-only c =
+    let p = err_from_is_err_and c.from_residual.result c.from_residual.ensures.1 in
     record {
-      value = ap headed (p.1 ∙ ap Err p.2) ∙ first_stop c.args.word c.loop-at.at c.in-err-only.field-0.0 (omega arith) c.in-err-only.ensures.value c.loop-at.invariant;
-      within = IfOk-from_err c.from-residual.result _ c.from-residual.ensures.0;
+      value = ap headed (p.1 ∙ ap Err p.2) ∙ first_stop c.args.word c.loop-at.at c.in_err-only.field-0.0 (omega arith) c.in_err-only.ensures.value c.loop-at.invariant;
+      within = IfOk-from_err c.from_residual.result _ c.from_residual.ensures.0;
     }
 
 pub loop-at-preserved : goal.loop-at-preserved
-loop-at-preserved c = first_more c.args.word c.loop-at.at c.in-ok-only.field-0 (omega arith) c.in-ok-only.ensures.value c.loop-at.invariant
+loop-at-preserved c = first_more c.args.word c.loop-at.at c.in_ok-only.field-0 (omega arith) c.in_ok-only.ensures.value c.loop-at.invariant
 
 pub returns : goal.returns
 returns c = record {
