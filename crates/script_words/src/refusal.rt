@@ -1,10 +1,11 @@
-// Why a text is no script. Each cause has its number; those of the board go up to 7.
+// Why a text is no script.
 ghost use Rattle.std.specs.Prelude.{◌≡◌};
 ghost use Rattle.script_words.specs.Refusal.{script_refusal_number};
 
+use std::error::Error;
 use std::fmt;
 
-// Each cause has its number, and none is 0.
+// Each cause has its number; those of chip and board go up to 7.
 #[derive(Clone, Copy, PartialEq, Eq, Debug)]
 pub enum ScriptRefusal {
     BadFirstLine = 8,
@@ -32,3 +33,5 @@ impl fmt::Display for ScriptRefusal {
         write!(f, "{cause}")
     }
 }
+
+impl Error for ScriptRefusal {}

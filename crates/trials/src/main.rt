@@ -22,6 +22,7 @@ use crate::shorten::Found;
 use crate::stop::Stop;
 use anyhow::anyhow;
 use std::env;
+use std::process::ExitCode;
 
 // The histories of a run without arguments.
 const HISTORIES: u64 = 6_000;
@@ -155,10 +156,12 @@ fn run(rt: &HostRuntime) -> anyhow::Result<()> {
     }
 }
 
-fn main(rt: HostRuntime) -> anyhow::Result<()> {
-    let done = run(&rt);
-    if let Err(e) = &done {
-        let _ = eprintln!(rt; "trials: {e}");
+fn main(rt: HostRuntime) -> ExitCode {
+    match run(&rt) {
+        Ok(()) => ExitCode::SUCCESS,
+        Err(e) => {
+            let _ = eprintln!(rt; "trials: {e}");
+            ExitCode::FAILURE
+        }
     }
-    done
 }
