@@ -1,7 +1,7 @@
 // A second model of the chip and of the board, and a second reader of scripts, written from
 // `docs/CHIP.md`, `docs/BOARD.md` and `docs/SCRIPT.md` alone.
-// It shares no code with the first model, and has no contracts: the programs `trials` and
-// `script_trials` compare the two.
+// It shares no code with the first model, and has no contracts: the program `trials` compares
+// the two models. No program compares the two readers yet.
 #![tactic(auto)]
 
 mod board;
