@@ -3,6 +3,7 @@
 
 use crate::bench::Bench;
 use crate::story::STORY;
+use std::process::ExitCode;
 
 mod bench;
 mod names;
@@ -24,10 +25,12 @@ fn run(rt: &HostRuntime) -> anyhow::Result<()> {
     Ok(())
 }
 
-fn main(rt: HostRuntime) -> anyhow::Result<()> {
-    let done = run(&rt);
-    if let Err(e) = &done {
-        let _ = eprintln!(rt; "loopback: {e}");
+fn main(rt: HostRuntime) -> ExitCode {
+    match run(&rt) {
+        Ok(()) => ExitCode::SUCCESS,
+        Err(e) => {
+            let _ = eprintln!(rt; "loopback: {e}");
+            ExitCode::FAILURE
+        }
     }
-    done
 }
