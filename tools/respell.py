@@ -15,12 +15,15 @@ from pathlib import Path
 ROOT = Path(__file__).resolve().parent.parent / 'crates'
 NAME = re.compile(r"[^\s(){}\[\];,.\"@`]+")
 TURNED = re.compile(r"[a-z][\w']*(?:-[\w']+)*(?:-[^\w\s'-]+)?")
-# where the plain spelling is that of another name of the same crate
+# where the plain spelling is that of another name of the same crate or of the library
 SPECIAL = {
+    'bit-and': 'bit_and_lem',
+    'bit-or': 'bit_or_lem',
     'data-bits': 'data_bits_law',
     'parity-bit': 'parity_bit_law',
     'first-line': 'first_line_lem',
     'goes_on': 'goes_on_lem',
+    'isr-read': 'isr_read_lem',
     'plain-spot': 'plain_spot_lem',
     'set-up-by': 'set_up_by_lem',
     'with-bit': 'with_bit_lem',

@@ -76,9 +76,23 @@ fn format_of(size: Size, parity: u8, control: (u8, u8)) -> Format {
 }
 
 // Word by word channel 1 sends 0 to 255, and channel 2 sends 255 to 0.
-fn send<A: Line, B: Line>(rt: &impl Abort, board: &mut Board<A, B>, word: u8) -> Result<(), Fail> {
-    assert_eq!(rt; board.write(3, word)?, WriteNote::Stored, "{}", word);
-    assert_eq!(rt; board.write(7, 255 - word)?, WriteNote::Stored, "{}", word);
+fn send<A: Line, B: Line>(
+    rt: &impl Abort,
+    board: &mut Board<A, B>,
+    format: Format,
+    word: u8,
+) -> Result<(), Fail> {
+    let Format { cr, fr, .. } = format;
+    assert_eq!(rt;
+        board.write(3, word)?,
+        WriteNote::Stored,
+        "CR {cr} FR {fr} frame {word}"
+    );
+    assert_eq!(rt;
+        board.write(7, 255 - word)?,
+        WriteNote::Stored,
+        "CR {cr} FR {fr} frame {word}"
+    );
     Ok(())
 }
 
@@ -86,23 +100,30 @@ fn send<A: Line, B: Line>(rt: &impl Abort, board: &mut Board<A, B>, word: u8) ->
 fn hear<A: Line, B: Line>(
     rt: &impl Abort,
     board: &mut Board<A, B>,
+    format: Format,
     select: u8,
     report: Report,
-    word: u8,
+    sent: u8,
 ) -> Result<bool, Fail> {
     if report.kind == ReportKind::Nothing {
         return Ok(false);
     }
+    let Format { cr, fr, .. } = format;
+    let word = sent & format.mask;
     let kept = Report {
         kind: ReportKind::Kept,
         word,
     };
-    assert_eq!(rt; report, kept, "at select {}", select);
+    assert_eq!(rt; report, kept, "CR {cr} FR {fr} select {select}");
     let fresh = Reading {
         byte: word,
         note: ReadNote::Fresh,
     };
-    assert_eq!(rt; board.read(select)?, fresh, "at select {}", select);
+    assert_eq!(rt;
+        board.read(select)?,
+        fresh,
+        "CR {cr} FR {fr} select {select}"
+    );
     Ok(true)
 }
 
@@ -124,17 +145,11 @@ fn run_frame<A: Line, B: Line>(
     let mut heard = before;
     for _ in 0..format.cycles {
         let answer = board.cycle();
-        if hear(
-            rt,
-            board,
-            3,
-            answer.one.report,
-            (255 - heard.one) & format.mask,
-        )? {
+        if hear(rt, board, format, 3, answer.one.report, 255 - heard.one)? {
             heard.one = heard.one.wrapping_add(1);
             heard.all = heard.all.wrapping_add(1);
         }
-        if hear(rt, board, 7, answer.two.report, heard.two & format.mask)? {
+        if hear(rt, board, format, 7, answer.two.report, heard.two)? {
             heard.two = heard.two.wrapping_add(1);
             heard.all = heard.all.wrapping_add(1);
         }
@@ -156,7 +171,7 @@ fn carries<A: Line, B: Line>(
     };
     for frame in 0..FRAMES {
         if frame < WORDS {
-            send(rt, board, frame as u8)?;
+            send(rt, board, format, frame as u8)?;
         }
         heard = run_frame(rt, board, format, heard)?;
     }

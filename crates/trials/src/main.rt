@@ -60,9 +60,9 @@ fn read_arguments(rt: &HostRuntime) -> anyhow::Result<Request> {
     Ok(Request::Trials { histories, seed })
 }
 
-const HELP: &str = "trials [TIMES [SEED]]
+const HELP: &str = "trials [HISTORIES [SEED]]
 Plays random histories on the two models of the chip and the board, and compares everything.
-TIMES: how often 6,000 histories are played (1). SEED: that of the first history (0).
+HISTORIES: how many are played (6000). SEED: that of the first one (0).
 It fails if the models differ, or if something that it counts was never seen.";
 
 // Prints a difference and the shortest history that still has one.
