@@ -1,5 +1,5 @@
 -- Every call keeps the invariant of the board.
-use Rattle.std.proofs.Common.{◌≡◌, ℕ, zero, suc, ◌+◌, ◌%◌, ◌<◌, Bool, true, false, cond, not, ◌&&◌, eqb, List, [], ◌∷◌, ◌++◌, Some, Ok, Err, Result, sym, refl, ap, ◌∙◌, subst, append-nil, arith}
+use Rattle.std.proofs.Common.{◌≡◌, ℕ, zero, suc, ◌+◌, ◌%◌, ◌<◌, Bool, true, false, cond, not, ◌&&◌, eqb, List, [], ◌∷◌, ◌++◌, Some, Option, Ok, Err, Result, sym, refl, ap, ◌∙◌, subst, append-nil, arith}
 use Rattle.std.proofs.lemmas.Bool.{lt-ltb, ne_eqb, cond-false, and_right}
 use Rattle.terms.specs.declared.channel_id.ChannelId.{ChannelId}
 use Rattle.terms.specs.declared.channel_id.ChannelId.TheVariants.{One, Two}
@@ -11,7 +11,6 @@ use Rattle.terms.specs.declared.note.WriteNote.TheVariants.{Stored, Replaced}
 use Rattle.terms.specs.declared.refusal.Refusal.{Refusal}
 use Rattle.terms.specs.declared.refusal.Refusal.TheVariants.{NoSuchSelect}
 use Rattle.terms.specs.declared.report.Report.{Report}
-use Rattle.terms.specs.Note.{read_note_number, write_note_number}
 use Rattle.channel.specs.declared.modem.ModemInput.{ModemInput}
 use Rattle.channel.specs.declared.channel.Channel.{Channel}
 use Rattle.channel.specs.Control.{rate_code, divisor, format_of}
@@ -22,7 +21,7 @@ use Rattle.channel.specs.Receiving.{reading, emptied}
 use Rattle.channel.specs.Channel.{isr_read, rdr_read, tdr_written, modem_changed, with_interrupts}
 use Rattle.dacia.specs.declared.chip.Chip.{Chip}
 use Rattle.terms.specs.declared.register.Register.TheVariants.{Data}
-use Rattle.dacia.specs.Access.{select_at, channel_at, register_at, place_at, read_at, write_at}
+use Rattle.dacia.specs.Access.{select_at, channel_at, register_at, place_at, access_at}
 use Rattle.dacia.specs.Chip.{channel_of, with_channel, after_read_of, after_write_of, read_once, after_read_once, write_once, after_write_once}
 use Rattle.dacia.specs.Separation.{same, answer_of}
 use Rattle.link.specs.Link.{Link, link_cycle}
@@ -31,7 +30,7 @@ use Rattle.link.proofs.Links.{LinkInv, cycle_inv, write_inv, read_inv, cts_inv}
 use Rattle.board.specs.Board.{State, with_chip, cycle_answer, after_cycle}
 use Rattle.board.specs.Sweep.{Order, cycles, entries, written, sweep_by}
 use Rattle.board.specs.Calls.{Call, read, enable, send, write_above, modem, cycle, sweep, accepted, step, Seen, did_read, did_enable, did_send, did_write_above, did_modem, did_sweep, did_refuse, seen, Played, play_one, play}
-use Rattle.board.specs.Delivery.{far, line_of, cts_after, cts_of, past_reading, past_after, past_of, past_sweep}
+use Rattle.board.specs.Delivery.{far, line_of, cts_after, cts_of, is_fresh, is_replaced, past_reading, past_after, past_of, past_sweep}
 use Rattle.board.proofs.Records.{words_more}
 use Rattle.board.proofs.Directions.{link_of, Steady, cycle_link, cycle_steady, cycle_level}
 
@@ -111,13 +110,13 @@ module _ (cr fr D : ℕ) (dv : divisor (rate_code cr) ≡ Some D) (d : ChannelId
   dsr_still l = record { control = λ c. refl; count = λ c. refl; level = λ c. refl; sender = λ c. refl; receiving = λ c. refl }
 
   -- a read of RDR, seen from the channel at the other end of the line
-  fresh_note : (b : Bool) → eqb (read_note_number (cond b Fresh Old)) (read_note_number Fresh) ≡ b
+  fresh_note : (b : Bool) → is_fresh (Some (cond b Fresh Old)) ≡ b
   fresh_note true = refl
   fresh_note false = refl
 
   rdr_link : (ch : ChannelId) (w : Played) → Inv w → let k : Link = link_of ch w.board in
       LinkInv (format_of cr fr) (d ch) D (record { phase = k.phase; cts = k.cts; sender = k.sender; line = k.line; receiving = emptied k.receiving })
-      (past_read (eqb (read_note_number (reading k.receiving).note) (read_note_number Fresh)) k.receiving.rdr (past_of ch w.past))
+      (past_read (is_fresh (reading k.receiving).note) k.receiving.rdr (past_of ch w.past))
   rdr_link ch w i =
       let k : Link = link_of ch w.board in
       let P : Bool → Type 0 = λ b.
@@ -144,13 +143,13 @@ module _ (cr fr D : ℕ) (dv : divisor (rate_code cr) ≡ Some D) (d : ChannelId
   }
 
   -- a write to TDR, seen from its own channel
-  replaced_note : (b : Bool) → eqb (write_note_number (cond b Stored Replaced)) (write_note_number Replaced) ≡ not b
+  replaced_note : (b : Bool) → is_replaced (Some (cond b Stored Replaced)) ≡ not b
   replaced_note true = refl
   replaced_note false = refl
 
   send_link : (ch : ChannelId) (v : ℕ) (w : Played) → Inv w → let k : Link = link_of ch w.board in
       LinkInv (format_of cr fr) (d ch) D (record { phase = k.phase; cts = k.cts; sender = filled v k.sender; line = k.line; receiving = k.receiving })
-      (past_write (eqb (write_note_number (tdr_note k.sender)) (write_note_number Replaced)) v (past_of ch w.past))
+      (past_write (is_replaced (Some (tdr_note k.sender))) v (past_of ch w.past))
   send_link ch v w i =
       let k : Link = link_of ch w.board in
       let P : Bool → Type 0 = λ b.
@@ -159,7 +158,7 @@ module _ (cr fr D : ℕ) (dv : divisor (rate_code cr) ≡ Some D) (d : ChannelId
       subst P (sym (replaced_note (is_empty k.sender.tdr))) (write_inv (format_of cr fr) (d ch) D k (past_of ch w.past) v (i.links ch))
 
   send_seen : ChannelId → ℕ → Played → Seen
-  send_seen e v w = did_send e v (Ok (tdr_note (channel_of e w.board.chip).sender))
+  send_seen e v w = did_send e v (Ok (Some (tdr_note (channel_of e w.board.chip).sender)))
 
   send_links : (ch e : ChannelId) (v : ℕ) (w : Played) → Inv w →
       LinkInv (format_of cr fr) (d ch) D (link_of ch (changed e (tdr_written v) (send_seen e v w) w).board) (past_of ch (send_seen e v w ∷ w.past))
@@ -219,7 +218,7 @@ module _ (cr fr D : ℕ) (dv : divisor (rate_code cr) ≡ Some D) (d : ChannelId
   read_above : (s : ℕ) → 7 < s → (w : Played) → Inv w → Inv (play_one (read s) w)
   unfolding step seen
   read_above s h w i =
-      let e : w.board.chip ≡ after_read_once s w.board.chip = ap (λ r. after_read_of (read_at r) w.board.chip) (sym (above s h)) in
+      let e : w.board.chip ≡ after_read_once s w.board.chip = ap (λ r. after_read_of (access_at r) w.board.chip) (sym (above s h)) in
       let v : Seen = did_read s (read_once s w.board.chip) in
       let P : Chip → Type 0 = λ c. Inv (record { board = with_chip c w.board; past = v ∷ w.past }) in
       subst P e (still_read s One (λ c. c) idle_still (λ q. omega arith) (λ q. omega arith) w i)
@@ -244,7 +243,7 @@ module _ (cr fr D : ℕ) (dv : divisor (rate_code cr) ≡ Some D) (d : ChannelId
   write_above_lem : (s b : ℕ) (w : Played) → Inv w → Inv (play_one (write_above s b) w)
   unfolding step seen
   write_above_lem s b w i =
-      let e : w.board.chip ≡ after_write_once (8 + s) b w.board.chip = ap (λ r. after_write_of (write_at r) b w.board.chip) (sym (above (8 + s) (omega arith))) in
+      let e : w.board.chip ≡ after_write_once (8 + s) b w.board.chip = ap (λ r. after_write_of (access_at r) b w.board.chip) (sym (above (8 + s) (omega arith))) in
       let v : Seen = did_write_above s b (write_once (8 + s) w.board.chip) in
       let P : Chip → Type 0 = λ c. Inv (record { board = with_chip c w.board; past = v ∷ w.past }) in
       subst P e (still_inv One (λ c. c) v idle_still (λ ch l. refl) (λ ch l p. refl) w i)
@@ -263,7 +262,7 @@ module _ (cr fr D : ℕ) (dv : divisor (rate_code cr) ≡ Some D) (d : ChannelId
       LinkInv (format_of cr fr) (d ch) D (link_of ch t) p → LinkInv (format_of cr fr) (d ch) D (link_of ch (after_cycle t)) (past_cycle l (answer_of (far ch) (cycle_answer t)).report p)
   cycle_one t s ch l p e i =
       let x = format_of cr fr in
-      let P : Report × Link → Type 0 = λ z. LinkInv x (d ch) D z.1 (past_cycle l z.0 p) in
+      let P : Option Report × Link → Type 0 = λ z. LinkInv x (d ch) D z.1 (past_cycle l z.0 p) in
       let Q : Bool → Type 0 = λ b. LinkInv x (d ch) D (link_cycle x D (link_of ch t)).1 (past_cycle b (link_cycle x D (link_of ch t)).0 p) in
       subst P (sym (cycle_link cr fr D dv t s ch)) (subst Q e (cycle_inv x (d ch) D (link_of ch t) p i))
 
@@ -313,8 +312,8 @@ module _ (cr fr D : ℕ) (dv : divisor (rate_code cr) ≡ Some D) (d : ChannelId
             let a = cycle_answer t in
             let q : Past = past_cycle l (answer_of (far ch) a).report (past_sweep l (far ch) k ws p) in
             let e : q ≡ past_sweep l (far ch) (suc k) (ws ++ entries o (suc k) a) p = λ j. record {
-              arrived = words_more arrived_of (λ v. refl) (far ch) p.arrived ws o (suc k) a j;
-              kept = words_more kept_of (λ v. refl) (far ch) p.kept ws o (suc k) a j;
+              arrived = words_more arrived_of (far ch) p.arrived ws o (suc k) a j;
+              kept = words_more kept_of (far ch) p.kept ws o (suc k) a j;
               fresh = p.fresh;
               unreplaced = p.unreplaced;
               row = q.row;

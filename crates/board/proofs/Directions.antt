@@ -1,5 +1,5 @@
 -- One direction of the board: how each call moves its link.
-use Rattle.std.proofs.Common.{◌≡◌, ℕ, ◌+◌, Bool, true, false, cond, ltb, List, Some, sym, ap, ◌∙◌, subst}
+use Rattle.std.proofs.Common.{◌≡◌, ℕ, ◌+◌, Bool, true, false, cond, ltb, List, Some, Option, sym, ap, ◌∙◌, subst}
 use Rattle.terms.specs.declared.channel_id.ChannelId.{ChannelId}
 use Rattle.terms.specs.declared.channel_id.ChannelId.TheVariants.{One, Two}
 use Rattle.terms.specs.declared.report.Report.{Report}
@@ -41,7 +41,7 @@ both P one two Two = two
 link_turned : (x : Format) (line : List Bool) (c e c₂ e₂ : Channel) (rxd : Bool) (a a₂ : ChannelAnswer) (b : Bool) →
     Turned x c rxd b a e → let k : Link = record { phase = c.count; cts = c.modem.cts.level; sender = c.sender; line = line; receiving = c₂.receiving } in
     Turned x c₂ (taken k) b a₂ e₂ →
-    ◌≡◌ {A = Report × Link}
+    ◌≡◌ {A = Option Report × Link}
     (a₂.report, record { phase = e.count; cts = e.modem.cts.level; sender = e.sender; line = held line (given k); receiving = e₂.receiving })
     (cond b (idled k) (ticked_on x k))
 link_turned x line c e c₂ e₂ rxd a a₂ true n f = λ i. (
@@ -82,7 +82,7 @@ module _ (cr fr D : ℕ) (dv : divisor (rate_code cr) ≡ Some D) where
 
   -- a cycle of the board is a cycle of each link
   pub cycle_link : (t : State) → Steady cr fr t → (ch : ChannelId) →
-      ◌≡◌ {A = Report × Link} ((answer_of (far ch) (cycle_answer t)).report, link_of ch (after_cycle t)) (link_cycle (format_of cr fr) D (link_of ch t))
+      ◌≡◌ {A = Option Report × Link} ((answer_of (far ch) (cycle_answer t)).report, link_of ch (after_cycle t)) (link_cycle (format_of cr fr) D (link_of ch t))
   unfolding cycle_answer after_cycle
   cycle_link t s One =
       link_turned (format_of cr fr) t.a t.chip.one _ t.chip.two _ (inputs t).rxd1 _ _ (ltb (t.chip.one.count + 1) D)

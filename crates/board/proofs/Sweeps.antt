@@ -1,14 +1,12 @@
 -- A sweep on its way, and one cycle more. The code writes channel 1's record first.
-use Rattle.std.proofs.Common.{◌≡◌, ℕ, suc, ◌+◌, ◌*◌, ◌<◌, ◌≤◌, false, List, [], ◌∷◌, ◌++◌, length, get_or, drop, set, sym, refl, ap, ◌∙◌, subst, append_assoc, append-nil, add-one, arith, length-append}
+use Rattle.std.proofs.Common.{◌≡◌, ℕ, zero, suc, ◌+◌, ◌-◌, ◌*◌, ◌<◌, ◌≤◌, false, List, [], ◌∷◌, ◌++◌, length, get_or, drop, set, Some, None, Option, sym, refl, ap, ◌∙◌, subst, append_assoc, append-nil, arith, length-append}
 use Rattle.std.proofs.lemmas.List.{set_at, drop_more, length_push}
 use Rattle.terms.specs.declared.channel_id.ChannelId.{ChannelId}
 use Rattle.terms.specs.declared.channel_id.ChannelId.TheVariants.{One, Two}
 use Rattle.terms.specs.declared.report.Report.{Report}
-use Rattle.terms.specs.declared.report.ReportKind.{ReportKind}
-use Rattle.terms.specs.declared.report.ReportKind.TheVariants.{Nothing, Break, Passed, Lost, Kept}
 use Rattle.dacia.specs.declared.chip.ChipAnswer.{ChipAnswer}
 use Rattle.board.specs.declared.record.Record.{Record}
-use Rattle.board.specs.Record.{entry_of, entry, placed}
+use Rattle.board.specs.Record.{entry, placed}
 use Rattle.board.specs.Board.{State, cycle_answer, after_cycle}
 use Rattle.board.specs.Sweep.{Order, cycles, entries, written, overwritten, Wrote, next_place, both_placed}
 
@@ -22,12 +20,9 @@ pub record Sweeping (i : ℕ) (s₀ : State) (rs₀ : List Record) (s : State) (
   pub count : n ≡ length (written one_first i s₀)
   pub few : n ≤ 2 * i
 
-entry_few : (k : ReportKind) (i : ℕ) (ch : ChannelId) (w : ℕ) → length (entry_of k i ch w) ≤ 1
-entry_few Nothing i ch w = omega arith
-entry_few Break i ch w = omega arith
-entry_few Passed i ch w = omega arith
-entry_few Lost i ch w = omega arith
-entry_few Kept i ch w = omega arith
+entry_few : (i : ℕ) (ch : ChannelId) (r : Option Report) → length (entry i ch r) ≤ 1
+entry_few i ch None = omega arith
+entry_few i ch (Some r) = omega arith
 
 -- one record more at the end of what was written
 push_more : (ws rs : List Record) (e : Record) → length ws < length rs → set (overwritten ws rs) (length ws) e ≡ overwritten (ws ++ (e ∷ [])) rs
@@ -37,20 +32,17 @@ push_more ws rs e lt =
     ∙ sym (append_assoc ws (e ∷ []) (drop (length ws + 1) rs))
     ∙ ap (λ m. (ws ++ e ∷ []) ++ drop m rs) (sym (length_push ws e))
 
-placed_more : (ws rs : List Record) (k : ReportKind) (i : ℕ) (ch : ChannelId) (w : ℕ) → length ws < length rs →
-    placed (overwritten ws rs) (length ws) (entry_of k i ch w) ≡ overwritten (ws ++ entry_of k i ch w) rs
-placed_more ws rs Nothing i ch w lt = ap (λ vs. overwritten vs rs) (sym (append-nil ws))
-placed_more ws rs Break i ch w lt = push_more ws rs (record { cycle = i; channel = ch; kind = Break; word = w }) lt
-placed_more ws rs Passed i ch w lt = push_more ws rs (record { cycle = i; channel = ch; kind = Passed; word = w }) lt
-placed_more ws rs Lost i ch w lt = push_more ws rs (record { cycle = i; channel = ch; kind = Lost; word = w }) lt
-placed_more ws rs Kept i ch w lt = push_more ws rs (record { cycle = i; channel = ch; kind = Kept; word = w }) lt
+placed_more : (ws rs : List Record) (i : ℕ) (ch : ChannelId) (r : Option Report) → length ws < length rs →
+    placed (overwritten ws rs) (length ws) (entry i ch r) ≡ overwritten (ws ++ entry i ch r) rs
+placed_more ws rs i ch None lt = ap (λ vs. overwritten vs rs) (sym (append-nil ws))
+placed_more ws rs i ch (Some r) lt = push_more ws rs (record { cycle = i; channel = ch; kind = r.kind; word = r.word }) lt
 
 -- a `put`: the list and the place after it
-put_more : (ws rs₀ rs rs' : List Record) (n n' i : ℕ) (ch : ChannelId) (r : Report) →
+put_more : (ws rs₀ rs rs' : List Record) (n n' i : ℕ) (ch : ChannelId) (r : Option Report) →
     rs ≡ overwritten ws rs₀ → n ≡ length ws → length ws < length rs₀ → n' ≡ n + length (entry i ch r) → rs' ≡ placed rs n (entry i ch r) →
     (rs' ≡ overwritten (ws ++ entry i ch r) rs₀) × (n' ≡ length (ws ++ entry i ch r))
 put_more ws rs₀ rs rs' n n' i ch r filled count room count' put = (
-  put ∙ ap (λ z. placed z n (entry i ch r)) filled ∙ ap (λ m. placed (overwritten ws rs₀) m (entry i ch r)) count ∙ placed_more ws rs₀ r.kind i ch r.word room,
+  put ∙ ap (λ z. placed z n (entry i ch r)) filled ∙ ap (λ m. placed (overwritten ws rs₀) m (entry i ch r)) count ∙ placed_more ws rs₀ i ch r room,
   simp length-append (omega arith),
 )
 
@@ -65,12 +57,12 @@ unfolding cycles written
 sweeping_more i s₀ rs₀ s rs n h room s' rs' n' es en er =
     let ws : List Record = written one_first i s₀ in
     let a : ChipAnswer = cycle_answer s in
-    let r₁ : Report = a.one.report in
-    let r₂ : Report = a.two.report in
+    let r₁ : Option Report = a.one.report in
+    let r₂ : Option Report = a.two.report in
     let e₁ : List Record = entry (suc i) One r₁ in
     let e₂ : List Record = entry (suc i) Two r₂ in
-    let few₁ : length e₁ ≤ 1 = entry_few r₁.kind (suc i) One r₁.word in
-    let few₂ : length e₂ ≤ 1 = entry_few r₂.kind (suc i) Two r₂.word in
+    let few₁ : length e₁ ≤ 1 = entry_few (suc i) One r₁ in
+    let few₂ : length e₂ ≤ 1 = entry_few (suc i) Two r₂ in
     let room₁ : length ws < length rs₀ = omega (arith, h.count, h.few) in
     let first = put_more ws rs₀ rs (placed rs n e₁) n (n + length e₁) (suc i) One r₁ h.filled h.count room₁ refl refl in
     let room₂ : length (ws ++ e₁) < length rs₀ = omega (arith, first.1, h.few) in
@@ -87,10 +79,12 @@ sweeping_more i s₀ rs₀ s rs n h room s' rs' n' es en er =
 pub sweeping_all : (k : ℕ) (s₀ : State) (rs₀ : List Record) (s : State) (rs : List Record) (n : ℕ) → Sweeping k s₀ rs₀ s rs n → Wrote k s₀ rs₀ n rs
 sweeping_all k s₀ rs₀ s rs n h = record { order = one_first; count = h.count; list = h.filled }
 
--- the same with the number of the cycle as the code has it
-pub sweeping_again : (i : ℕ) (s₀ : State) (rs₀ : List Record) (s : State) (rs : List Record) (n : ℕ) →
-    Sweeping i s₀ rs₀ s rs n → 2 * i + 2 ≤ length rs₀ → (s' : State) (rs' : List Record) (n' : ℕ) →
-    s' ≡ after_cycle s → n' ≡ next_place n (i + 1) (cycle_answer s) → rs' ≡ both_placed rs n (i + 1) (cycle_answer s) → Sweeping (i + 1) s₀ rs₀ s' rs' n'
-sweeping_again i s₀ rs₀ s rs n h room s' rs' n' es =
-    let P : ℕ → Type 0 = λ j. n' ≡ next_place n j (cycle_answer s) → rs' ≡ both_placed rs n j (cycle_answer s) → Sweeping j s₀ rs₀ s' rs' n' in
-    subst P (sym (add-one i)) (λ en er. sweeping_more i s₀ rs₀ s rs n h room s' rs' n' es en er)
+-- the same by the number of the cycle
+pub sweeping_next : (c : ℕ) (s₀ : State) (rs₀ : List Record) (s : State) (rs : List Record) (n : ℕ) →
+    1 ≤ c → Sweeping (c - 1) s₀ rs₀ s rs n → 2 * c ≤ length rs₀ → (s' : State) (rs' : List Record) (n' : ℕ) →
+    s' ≡ after_cycle s → n' ≡ next_place n c (cycle_answer s) → rs' ≡ both_placed rs n c (cycle_answer s) → Sweeping c s₀ rs₀ s' rs' n'
+sweeping_next zero s₀ rs₀ s rs n from h room s' rs' n' = absurd (omega (arith, from))
+sweeping_next (suc i) s₀ rs₀ s rs n from h room s' rs' n' =
+    let less : suc i - 1 ≡ i = omega arith in
+    let before : Sweeping i s₀ rs₀ s rs n = subst (λ m. Sweeping m s₀ rs₀ s rs n) less h in
+    sweeping_more i s₀ rs₀ s rs n before (omega (arith, room)) s' rs' n'

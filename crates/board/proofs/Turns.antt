@@ -1,7 +1,6 @@
 -- A channel in a cycle of the board, seen through its sender and its receiving side.
-use Rattle.std.proofs.Common.{◌≡◌, ℕ, ◌+◌, Bool, true, false, cond, ltb, Some, Option, sym, refl, ap, ◌∙◌, subst}
+use Rattle.std.proofs.Common.{◌≡◌, ℕ, ◌+◌, Bool, true, false, cond, ltb, Some, None, Option, sym, refl, ap, ◌∙◌, subst}
 use Rattle.terms.specs.declared.report.Report.{Report}
-use Rattle.terms.specs.declared.report.ReportKind.TheVariants.{Nothing}
 use Rattle.serial.specs.declared.format.Format.{Format}
 use Rattle.serial.specs.Frame.{bit}
 use Rattle.channel.specs.declared.control.Control.{Control}
@@ -11,7 +10,7 @@ use Rattle.channel.specs.declared.channel.ChannelAnswer.{ChannelAnswer}
 use Rattle.channel.specs.declared.channel.Ticks.{Ticks}
 use Rattle.channel.specs.Control.{rate_code, divisor, format_of}
 use Rattle.channel.specs.Sender.{sent}
-use Rattle.channel.specs.Receiving.{reported, heard_by}
+use Rattle.channel.specs.Receiving.{heard_by}
 use Rattle.channel.specs.Channel.{with_count, counting_by}
 use Rattle.channel.specs.Calls.{heard_if, sent_if, answering, cycled}
 
@@ -25,7 +24,7 @@ pub record Turned (x : Format) (c : Channel) (rxd b : Bool) (a : ChannelAnswer) 
   pub level : e.modem.cts.level ≡ c.modem.cts.level
   pub count : e.count ≡ cond b (c.count + 1) 0
   pub sender : e.sender ≡ cond b c.sender (sent x false c.modem.cts.level c.sender)
-  pub heard : ◌≡◌ {A = Report × Receiving} (a.report, e.receiving) (cond b (reported Nothing 0, c.receiving) (heard_by x 0 false rxd c.receiving))
+  pub heard : ◌≡◌ {A = Option Report × Receiving} (a.report, e.receiving) (cond b (None, c.receiving) (heard_by x 0 false rxd c.receiving))
 
 -- the cycle by whether the count stays below the divisor
 abbrev cycled_if : Bool → Bool → Channel → ChannelAnswer × Channel

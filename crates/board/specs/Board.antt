@@ -10,16 +10,12 @@ use Rattle.dacia.specs.declared.chip.Inputs.{Inputs}
 use Rattle.dacia.specs.declared.chip.ChipAnswer.{ChipAnswer}
 use Rattle.dacia.specs.Chip.{newly_reset, chip_cycled, after_read_once, after_write_once}
 use Rattle.line.specs.Line.{leaves, held, all_high}
-use Rattle.board.specs.declared.board.Board.{Board}
 
 -- what a board stands for: its chip, and the levels that its lines hold
 pub record State : Type 0 where
   pub chip : Chip
   pub a : List Bool
   pub b : List Bool
-
-abbrev pub state : {A B : Type 0} → (A → List Bool) → (B → List Bool) → Board A B → State
-state f h s = record { chip = s.chip; a = f s.a; b = h s.b }
 
 abbrev pub with_chip : Chip → State → State
 with_chip c s = record { chip = c; a = s.a; b = s.b }
@@ -33,7 +29,7 @@ txd2 s = txd_of s.chip.two
 
 -- the answers of the lines are the levels of RxD; no cycle of a board is marked RxC or TxC
 abbrev pub inputs : State → Inputs
-inputs s = record { rxd1 = leaves s.b (txd2 s); rxd2 = leaves s.a (txd1 s); rxc = false; txc = false }
+inputs s = record { rxd1 = leaves s.b (txd2 s); rxd2 = leaves s.a (txd1 s); marks = record { rxc = false; txc = false } }
 
 -- a cycle of the board
 unfoldable pub cycle_answer : State → ChipAnswer

@@ -1,5 +1,5 @@
 -- Lists of calls on a board that is set up, and what they answered.
-use Rattle.std.specs.Prelude.{ℕ, ◌+◌, Bool, cond, List, [], ◌∷◌, Result, ◌==◌}
+use Rattle.std.specs.Prelude.{ℕ, ◌+◌, Bool, cond, List, [], ◌∷◌, Option, Result, ◌==◌}
 use Rattle.terms.specs.declared.channel_id.ChannelId.{ChannelId}
 use Rattle.terms.specs.declared.modem_line.ModemLine.{ModemLine}
 use Rattle.terms.specs.declared.note.Reading.{Reading}
@@ -42,9 +42,9 @@ step (sweep k room o) t = cond (accepted k room) (cycles k t) t
 -- that it wrote, a refused sweep with its number
 pub data Seen : Type 0 where
   did_read : ℕ → Result Reading Refusal → Seen
-  did_enable : ChannelId → ℕ → Result WriteNote Refusal → Seen
-  did_send : ChannelId → ℕ → Result WriteNote Refusal → Seen
-  did_write_above : ℕ → ℕ → Result WriteNote Refusal → Seen
+  did_enable : ChannelId → ℕ → Result (Option WriteNote) Refusal → Seen
+  did_send : ChannelId → ℕ → Result (Option WriteNote) Refusal → Seen
+  did_write_above : ℕ → ℕ → Result (Option WriteNote) Refusal → Seen
   did_modem : ChannelId → ModemLine → Bool → Seen
   did_cycle : ChipAnswer → Seen
   did_sweep : ℕ → List Record → Seen

@@ -1,10 +1,11 @@
 -- Delivery: the words written to one channel's TDR arrive at the other channel, in order and unaltered, and all of them in time.
 -- The statement speaks only of calls and of what they answered.
-use Rattle.std.specs.Prelude.{◌≡◌, ℕ, zero, suc, ◌+◌, ◌*◌, ◌≤◌, Bool, false, cond, ◌&&◌, List, [], ◌∷◌, ◌++◌, map, length, Ok, Err, Result, ◌==◌, slice_index}
+use Rattle.std.specs.Prelude.{◌≡◌, ℕ, zero, suc, ◌+◌, ◌*◌, ◌≤◌, Bool, false, cond, ◌&&◌, List, [], ◌∷◌, ◌++◌, map, length, Some, None, Option, Ok, Err, Result, ◌==◌, slice_index}
 use Rattle.terms.specs.declared.channel_id.ChannelId.{ChannelId}
 use Rattle.terms.specs.declared.channel_id.ChannelId.TheVariants.{One, Two}
 use Rattle.terms.specs.declared.modem_line.ModemLine.TheVariants.{Cts}
 use Rattle.terms.specs.declared.note.Reading.{Reading}
+use Rattle.terms.specs.declared.note.ReadNote.{ReadNote}
 use Rattle.terms.specs.declared.note.ReadNote.TheVariants.{Fresh}
 use Rattle.terms.specs.declared.note.WriteNote.{WriteNote}
 use Rattle.terms.specs.declared.note.WriteNote.TheVariants.{Replaced}
@@ -76,13 +77,22 @@ past_sweep cts to k rs p = record {
   longest = longest_over cts k p.row p.longest;
 }
 
+-- the notes that tell of a fresh read, and of a word that was replaced
+abbrev pub is_fresh : Option ReadNote → Bool
+is_fresh None = false
+is_fresh (Some n) = read_note_number n == read_note_number Fresh
+
+abbrev pub is_replaced : Option WriteNote → Bool
+is_replaced None = false
+is_replaced (Some n) = write_note_number n == write_note_number Replaced
+
 -- what a read, a write and a sweep add, by what they answered
 abbrev pub past_reading : Result Reading Refusal → Past → Past
-past_reading (Ok r) p = past_read (read_note_number r.note == read_note_number Fresh) r.byte p
+past_reading (Ok r) p = past_read (is_fresh r.note) r.byte p
 past_reading (Err e) p = p
 
-abbrev pub past_noted : Result WriteNote Refusal → ℕ → Past → Past
-past_noted (Ok n) w p = past_write (write_note_number n == write_note_number Replaced) w p
+abbrev pub past_noted : Result (Option WriteNote) Refusal → ℕ → Past → Past
+past_noted (Ok n) w p = past_write (is_replaced n) w p
 past_noted (Err e) w p = p
 
 -- what a call adds to the words from a channel, with the level of its CTS

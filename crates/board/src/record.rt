@@ -6,7 +6,7 @@ use terms::channel_id::ChannelId;
 use terms::report::{Report, ReportKind};
 
 // A report of a sweep: the number of its cycle, from 1 in each sweep, its channel, kind and word.
-#[derive(Clone, Copy)]
+#[derive(Clone, Copy, PartialEq, Eq, Debug)]
 pub struct Record {
     pub cycle: u16,
     pub channel: ChannelId,
@@ -14,26 +14,26 @@ pub struct Record {
     pub word: u8,
 }
 
-// Writes the record of a report, if it is one, at a place, and answers the next place.
+// Writes the record of a report, if there is one, at a place, and answers the next place.
 pub(crate) fn put(
     records: &mut [Record],
     at: usize,
     cycle: u16,
     channel: ChannelId,
-    report: Report,
+    report: Option<Report>,
 ) -> usize
     requires { at < length records.old }
     ensures counts { result ≡ at + length (entry cycle channel report) }
     ensures writes { records.new ≡ placed records.old at (entry cycle channel report) }
 {
-    if let ReportKind::Nothing = report.kind {
+    let Some(Report { kind, word }) = report else {
         return at;
-    }
+    };
     records[at] = Record {
         cycle,
         channel,
-        kind: report.kind,
-        word: report.word,
+        kind,
+        word,
     };
     at + 1
 }

@@ -155,7 +155,7 @@ abbrev pub format : Channel → Format
 format c = format_of c.control.cr c.control.fr
 
 -- a tick of the receiver
-abbrev pub heard_on : Bool → Channel → Report × Channel
+abbrev pub heard_on : Bool → Channel → Option Report × Channel
 heard_on l c =
     let t = heard_by (format c) c.control.cdr (bit c.control.acr 0) l c.receiving in
     (t.0, following all_but_tdre c (with_receiving t.1 c))

@@ -8,7 +8,7 @@ use Rattle.terms.specs.declared.note.ReadNote.TheVariants.{Fresh, Old}
 use Rattle.terms.specs.declared.note.Reading.{Reading}
 use Rattle.terms.specs.declared.report.Report.{Report}
 use Rattle.terms.specs.declared.report.ReportKind.{ReportKind}
-use Rattle.terms.specs.declared.report.ReportKind.TheVariants.{Nothing, Break, Passed, Lost, Kept}
+use Rattle.terms.specs.declared.report.ReportKind.TheVariants.{Break, Passed, Lost, Kept}
 use Rattle.channel.specs.declared.receiving.Errors.{Errors}
 use Rattle.channel.specs.declared.receiving.Receiving.{Receiving}
 
@@ -26,25 +26,28 @@ with_receiver v r = record { rdr = r.rdr; rdrf = r.rdrf; errors = r.errors; asle
 
 -- what a read of RDR answers: fresh if RDRF was set
 abbrev pub reading : Receiving → Reading
-reading r = record { byte = r.rdr; note = cond r.rdrf Fresh Old }
+reading r = record { byte = r.rdr; note = Some (cond r.rdrf Fresh Old) }
 
 -- and it clears RDRF, PAR, FE, OVR and BRK
 abbrev pub emptied : Receiving → Receiving
 emptied r = record { rdr = r.rdr; rdrf = false; errors = no_errors; asleep = r.asleep; receiver = r.receiver }
 
-abbrev pub reported : ReportKind → ℕ → Report
-reported k w = record { kind = k; word = w }
+abbrev pub report : ReportKind → ℕ → Report
+report k w = record { kind = k; word = w }
+
+abbrev pub reported : ReportKind → ℕ → Option Report
+reported k w = Some (report k w)
 
 -- all bits were low: BRK
-abbrev pub broke : Receiving → Report × Receiving
+abbrev pub broke : Receiving → Option Report × Receiving
 broke r = let e = r.errors in (reported Break 0, with_errors (record { par = e.par; fe = e.fe; ovr = e.ovr; brk = true }) r)
 
 -- asleep: it wakes if the data equal CDR
-abbrev pub passed_by : ℕ → ℕ → Receiving → Report × Receiving
+abbrev pub passed_by : ℕ → ℕ → Receiving → Option Report × Receiving
 passed_by w cdr r = (reported Passed w, with_asleep (not (w == cdr)) r)
 
 -- RDRF was set: OVR, and RDR keeps its word
-abbrev pub overrun : ℕ → Receiving → Report × Receiving
+abbrev pub overrun : ℕ → Receiving → Option Report × Receiving
 overrun w r = let e = r.errors in (reported Lost w, with_errors (record { par = e.par; fe = e.fe; ovr = true; brk = e.brk }) r)
 
 -- PAR tells a wrong parity bit, or with ACR bit 0 set it is the parity bit
@@ -52,7 +55,7 @@ abbrev pub par_flag : Bool → Received → Bool
 par_flag shown f = cond shown f.parity f.wrong
 
 -- RDR takes the data, RDRF is set, FE tells a low stop bit, PAR the parity
-abbrev pub kept : Received → Bool → Receiving → Report × Receiving
+abbrev pub kept : Received → Bool → Receiving → Option Report × Receiving
 kept f shown r = (
   reported Kept f.word,
   record {
@@ -65,13 +68,13 @@ kept f shown r = (
 )
 
 -- the end of a frame: the first rule that applies
-abbrev pub ending : Received → ℕ → Bool → Receiving → Report × Receiving
+abbrev pub ending : Received → ℕ → Bool → Receiving → Option Report × Receiving
 ending f cdr shown r = cond f.low (broke r) (cond r.asleep (passed_by f.word cdr r) (cond r.rdrf (overrun f.word r) (kept f shown r)))
 
-abbrev pub perhaps_ending : Option Received → ℕ → Bool → Receiving → Report × Receiving
-perhaps_ending None cdr shown r = (reported Nothing 0, r)
+abbrev pub perhaps_ending : Option Received → ℕ → Bool → Receiving → Option Report × Receiving
+perhaps_ending None cdr shown r = (None, r)
 perhaps_ending (Some f) cdr shown r = ending f cdr shown r
 
 -- one tick, with the format now set, CDR, ACR bit 0 and the level of RxD
-abbrev pub heard_by : Format → ℕ → Bool → Bool → Receiving → Report × Receiving
+abbrev pub heard_by : Format → ℕ → Bool → Bool → Receiving → Option Report × Receiving
 heard_by x cdr shown l r = let t = heard x l r.receiver in perhaps_ending t.0 cdr shown (with_receiver t.1 r)

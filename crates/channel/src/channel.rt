@@ -3,7 +3,8 @@ ghost use Rattle.std.specs.Prelude.{◌≡◌, Bool, true, false};
 ghost use Rattle.serial.specs.Transmitter.{level};
 ghost use Rattle.channel.specs.Receiving.{reading};
 ghost use Rattle.channel.specs.Sender.{tdr_note};
-ghost use Rattle.channel.specs.Channel.{powered_on, after_reset, tdre, flags, any_set, isr_of, csr_of, isr_read, rdr_read, control_written, auxiliary_written, tdr_written, modem_changed, heard_on, sent_on, clocked, txd_of, irq_of};
+ghost use Rattle.std.specs.Fn.{FnOnceReturnsAtMut};
+ghost use Rattle.channel.specs.Channel.{following, powered_on, after_reset, tdre, flags, any_set, isr_of, csr_of, isr_read, rdr_read, control_written, auxiliary_written, tdr_written, modem_changed, heard_on, sent_on, clocked, txd_of, irq_of};
 ghost use Rattle.channel.specs.Calls.{read_answer, after_read, write_answer, after_write, cycled};
 
 use crate::bits::{byte_of, is_set};
@@ -13,12 +14,12 @@ use crate::modem::{Modem, ModemInput};
 use crate::receiving::{NO_ERRORS, Receiving};
 use crate::sender::Sender;
 use serial::receiver::Receiver;
-use serial::transmitter::Transmitter;
+use serial::transmitter::{Setting, Transmitter};
 use terms::modem_line::ModemLine;
-use terms::note::{ReadNote, Reading, WriteNote};
+use terms::note::{Reading, WriteNote};
 use terms::refusal::Refusal;
 use terms::register::Register;
-use terms::report::{Report, ReportKind};
+use terms::report::Report;
 
 #[derive(Clone, Copy)]
 pub struct Channel {
@@ -30,12 +31,19 @@ pub struct Channel {
     count: u16,
 }
 
-// What a channel answers to a cycle: its levels as the cycle leaves them, and its report.
-#[derive(Clone, Copy)]
+// Whether a cycle is marked RxC, and whether it is marked TxC.
+#[derive(Clone, Copy, PartialEq, Eq, Debug)]
+pub struct Marks {
+    pub rxc: bool,
+    pub txc: bool,
+}
+
+// What a channel answers to a cycle: its levels as the cycle leaves them, and its report, if a frame ended.
+#[derive(Clone, Copy, PartialEq, Eq, Debug)]
 pub struct ChannelAnswer {
     pub txd: bool,
     pub irq: bool,
-    pub report: Report,
+    pub report: Option<Report>,
 }
 
 // Which of the two parts tick in a cycle.
@@ -103,10 +111,7 @@ impl Channel {
     fn tdre(&self) -> bool
         ensures { result ≡ tdre self.now }
     {
-        match self.sender.tdr {
-            Some(_) => false,
-            None => !self.modem.cts.level,
-        }
+        self.sender.tdr.is_none() && !self.modem.cts.level
     }
 
     // The interrupt sources in bits 6-0, below the given bit 7.
@@ -134,6 +139,18 @@ impl Channel {
             return true;
         }
         self.modem.cts.level && !is_set(self.control.cr, 4)
+    }
+
+    // An action, after which the requests follow the sources.
+    fn following<R, F: FnOnce(&mut Channel) -> R>(&mut self, may: u8, act: F) -> R
+        requires { F.IsAlwaysCallable act }
+        ensures { (acted : Channel) × FnOnceReturnsAtMut F.FnOnce act self.old result acted × (self.new ≡ following may self.old acted) }
+    {
+        let before = self.flags(false);
+        let answer = act(self);
+        let after = self.flags(false);
+        self.interrupts.follow(may, before, after);
+        answer
     }
 
     // ISR, which drops all requests and forgets the modem changes.
@@ -167,11 +184,7 @@ impl Channel {
         ensures answers { result ≡ reading self.old.receiving }
         ensures leaves { self.new ≡ rdr_read self.old }
     {
-        let before = self.flags(false);
-        let reading = self.receiving.read();
-        let after = self.flags(false);
-        self.interrupts.follow(ALL_BUT_TDRE, before, after);
-        reading
+        self.following(ALL_BUT_TDRE, |channel| channel.receiving.read())
     }
 
     // Bit 7 clear: CR; set: FR.
@@ -196,12 +209,11 @@ impl Channel {
         if is_set(self.control.cr, 6) {
             self.control.acr = byte % 4;
         } else {
-            let before = self.flags(false);
-            self.control.cdr = byte;
-            self.receiving.asleep = true;
-            self.receiving.rdrf = false;
-            let after = self.flags(false);
-            self.interrupts.follow(ALL_BUT_TDRE, before, after);
+            self.following(ALL_BUT_TDRE, |channel| {
+                channel.control.cdr = byte;
+                channel.receiving.asleep = true;
+                channel.receiving.rdrf = false;
+            });
         }
     }
 
@@ -209,21 +221,14 @@ impl Channel {
         ensures answers { result ≡ tdr_note self.old.sender }
         ensures leaves { self.new ≡ tdr_written byte self.old }
     {
-        let before = self.flags(false);
-        let note = self.sender.write(byte);
-        let after = self.flags(false);
-        self.interrupts.follow(ALL_BUT_TDRE, before, after);
-        note
+        self.following(ALL_BUT_TDRE, |channel| channel.sender.write(byte))
     }
 
     // A level on a modem input.
     pub fn set_modem(&mut self, line: ModemLine, level: bool)
         ensures { self.new ≡ modem_changed line level self.old }
     {
-        let before = self.flags(false);
-        self.modem.set(line, level);
-        let after = self.flags(false);
-        self.interrupts.follow(ALL_BUT_TDRE, before, after);
+        self.following(ALL_BUT_TDRE, |channel| channel.modem.set(line, level));
     }
 
     pub fn txd(&self) -> bool
@@ -239,35 +244,34 @@ impl Channel {
     }
 
     // A tick of the receiver.
-    fn hear(&mut self, level: bool) -> Report
+    fn hear(&mut self, level: bool) -> Option<Report>
         ensures { (result, self.new) ≡ heard_on level self.old }
     {
-        let before = self.flags(false);
-        let format = self.control.format();
-        let cdr = self.control.cdr;
-        let show_bit = is_set(self.control.acr, 0);
-        let report = self.receiving.tick(format, cdr, show_bit, level);
-        let after = self.flags(false);
-        self.interrupts.follow(ALL_BUT_TDRE, before, after);
-        report
+        self.following(ALL_BUT_TDRE, |channel| {
+            let control = channel.control;
+            let show_bit = is_set(control.acr, 0);
+            channel
+                .receiving
+                .tick(control.format(), control.cdr, show_bit, level)
+        })
     }
 
     // A tick of the transmitter.
     fn send(&mut self)
         ensures { self.new ≡ sent_on self.old }
     {
-        let before = self.flags(false);
-        let format = self.control.format();
-        let break_on = is_set(self.control.acr, 1);
-        let cts = self.modem.cts.level;
-        self.sender.tick(format, break_on, cts);
-        let after = self.flags(false);
-        self.interrupts.follow(ALL, before, after);
+        self.following(ALL, |channel| {
+            channel.sender.tick(Setting {
+                format: channel.control.format(),
+                break_on: is_set(channel.control.acr, 1),
+                cts: channel.modem.cts.level,
+            });
+        });
     }
 
     // The count of cycles, and which parts tick.
-    fn clock(&mut self, rxc: bool, txc: bool) -> Ticks
-        ensures { (result, self.new) ≡ clocked rxc txc self.old }
+    fn clock(&mut self, marks: Marks) -> Ticks
+        ensures { (result, self.new) ≡ clocked marks.rxc marks.txc self.old }
     {
         match self.control.divisor() {
             Some(divisor) => {
@@ -279,8 +283,8 @@ impl Channel {
                 }
             }
             None => Ticks {
-                receiver: rxc,
-                transmitter: txc,
+                receiver: marks.rxc,
+                transmitter: marks.txc,
             },
         }
     }
@@ -298,12 +302,12 @@ impl Channel {
         };
         Ok(Reading {
             byte,
-            note: ReadNote::Nothing,
+            note: None,
         })
     }
 
-    // A write: IER, CR or FR, CDR or ACR, TDR.
-    pub fn write(&mut self, register: Register, byte: u8) -> WriteNote
+    // A write: IER, CR or FR, CDR or ACR, TDR; only the last has a note.
+    pub fn write(&mut self, register: Register, byte: u8) -> Option<WriteNote>
         ensures answers { result ≡ write_answer register self.old }
         ensures leaves { self.new ≡ after_write register byte self.old }
     {
@@ -311,23 +315,20 @@ impl Channel {
             Register::Interrupt => self.interrupts.write_ier(byte),
             Register::Control => self.write_control(byte),
             Register::Auxiliary => self.write_auxiliary(byte),
-            Register::Data => return self.write_tdr(byte),
+            Register::Data => return Some(self.write_tdr(byte)),
         }
-        WriteNote::Nothing
+        None
     }
 
     // One cycle, with the level of RxD and the marks of RxC and TxC.
-    pub fn cycle(&mut self, rxd: bool, rxc: bool, txc: bool) -> ChannelAnswer
-        ensures { (result, self.new) ≡ cycled rxd rxc txc self.old }
+    pub fn cycle(&mut self, rxd: bool, marks: Marks) -> ChannelAnswer
+        ensures { (result, self.new) ≡ cycled rxd marks.rxc marks.txc self.old }
     {
-        let ticks = self.clock(rxc, txc);
+        let ticks = self.clock(marks);
         let report = if ticks.receiver {
             self.hear(rxd)
         } else {
-            Report {
-                kind: ReportKind::Nothing,
-                word: 0,
-            }
+            None
         };
         if ticks.transmitter {
             self.send();

@@ -25,11 +25,7 @@ const DIVISORS: [u16; 15] = [
 fn divisor(code: u8) -> Option<u16>
     ensures { result ≡ divisor code }
 {
-    if code < 15 {
-        Some(DIVISORS[code as usize])
-    } else {
-        None
-    }
+    DIVISORS.get(usize::from(code)).copied()
 }
 
 // FR bits 6-5: the number of data bits, less 5.

@@ -47,13 +47,13 @@ impl Receiving {
         self.errors = NO_ERRORS;
         Reading {
             byte: self.rdr,
-            note,
+            note: Some(note),
         }
     }
 
     // A frame has ended: the first rule that applies. `show_bit` is ACR bit 0.
     fn end(&mut self, frame: Received, cdr: u8, show_bit: bool) -> Report
-        ensures { (result, self.new) ≡ ending frame cdr show_bit self.old }
+        ensures { (Some result, self.new) ≡ ending frame cdr show_bit self.old }
     {
         if frame.low {
             self.errors.brk = true;
@@ -79,16 +79,17 @@ impl Receiving {
         Report { kind, word }
     }
 
-    // One tick of the receiver, with the format now set, CDR, ACR bit 0 and the level of RxD.
-    pub(crate) fn tick(&mut self, format: Format, cdr: u8, show_bit: bool, level: bool) -> Report
+    // One tick of the receiver, with the format now set, CDR, ACR bit 0 and the level of RxD; answers how a frame ended here, if one did.
+    pub(crate) fn tick(
+        &mut self,
+        format: Format,
+        cdr: u8,
+        show_bit: bool,
+        level: bool,
+    ) -> Option<Report>
         ensures { (result, self.new) ≡ heard_by format cdr show_bit level self.old }
     {
-        match self.receiver.tick(format, level) {
-            Some(frame) => self.end(frame, cdr, show_bit),
-            None => Report {
-                kind: ReportKind::Nothing,
-                word: 0,
-            },
-        }
+        let frame = self.receiver.tick(format, level)?;
+        Some(self.end(frame, cdr, show_bit))
     }
 }

@@ -2,8 +2,7 @@
 ghost use Rattle.std.specs.Prelude.{◌≡◌, Bool};
 ghost use Rattle.channel.specs.Sender.{tdr_note, filled, sent};
 
-use serial::format::Format;
-use serial::transmitter::Transmitter;
+use serial::transmitter::{Setting, Transmitter};
 use terms::note::WriteNote;
 
 #[derive(Clone, Copy)]
@@ -18,20 +17,17 @@ impl Sender {
         ensures answers { result ≡ tdr_note self.old }
         ensures leaves { self.new ≡ filled word self.old }
     {
-        let note = match self.tdr {
+        match self.tdr.replace(word) {
             Some(_) => WriteNote::Replaced,
             None => WriteNote::Stored,
-        };
-        self.tdr = Some(word);
-        note
+        }
     }
 
     // One tick of the transmitter; TDR is empty once its word is taken.
-    pub(crate) fn tick(&mut self, format: Format, break_on: bool, cts: bool)
-        ensures { self.new ≡ sent format break_on cts self.old }
+    pub(crate) fn tick(&mut self, set: Setting)
+        ensures { self.new ≡ sent set.format set.break_on set.cts self.old }
     {
-        let took = self.transmitter.tick(format, break_on, cts, self.tdr);
-        if took {
+        if self.transmitter.tick(set, self.tdr) {
             self.tdr = None;
         }
     }

@@ -11,7 +11,7 @@ use Rattle.channel.specs.Calls.{read_answer, after_read, write_answer, after_wri
 use Rattle.dacia.specs.declared.access.Place.{Place}
 use Rattle.dacia.specs.declared.chip.Chip.{Chip}
 use Rattle.dacia.specs.declared.chip.Inputs.{Inputs}
-use Rattle.dacia.specs.Access.{channel_at, register_at, place_at, read_at, write_at}
+use Rattle.dacia.specs.Access.{channel_at, register_at, place_at, access_at}
 use Rattle.dacia.specs.Chip.{channel_of, with_channel, chip_reset, read_of, after_read_of, write_of, after_write_of, after_read_once, after_write_once, chip_cycled}
 use Rattle.dacia.specs.Separation.{Call, reset, read, write, modem, cycle, step, note, reports, read_shown, write_shown, answer_of, answer, shown, same, concerns, own_inputs, own, only, struck, seen, Separated}
 
@@ -45,12 +45,12 @@ rxd One i = i.rxd1
 rxd Two i = i.rxd2
 
 cycle_channel : (ch : ChannelId) (i : Inputs) (c : Chip) →
-    ◌≡◌ {A = ChannelAnswer × Channel} (answer_of ch (chip_cycled i c).0, channel_of ch (chip_cycled i c).1) (cycled (rxd ch i) i.rxc i.txc (channel_of ch c))
+    ◌≡◌ {A = ChannelAnswer × Channel} (answer_of ch (chip_cycled i c).0, channel_of ch (chip_cycled i c).1) (cycled (rxd ch i) i.marks.rxc i.marks.txc (channel_of ch c))
 cycle_channel One i c = refl
 cycle_channel Two i c = refl
 
 cycle_own : (ch : ChannelId) (i : Inputs) (x : Channel) →
-    cycled (rxd ch i) i.rxc i.txc x ≡ cycled (rxd ch (own_inputs ch i)) (own_inputs ch i).rxc (own_inputs ch i).txc x
+    cycled (rxd ch i) i.marks.rxc i.marks.txc x ≡ cycled (rxd ch (own_inputs ch i)) (own_inputs ch i).marks.rxc (own_inputs ch i).marks.txc x
 cycle_own One i x = refl
 cycle_own Two i x = refl
 
@@ -81,20 +81,20 @@ module _ (ch : ChannelId) (c d : Chip) (agree : channel_of ch c ≡ channel_of c
   read_alike s true e h =
       let q = no_place s e in
       record {
-        answers = ap (λ r. read_shown (read_of (read_at r) c)) q ∙ sym (ap (λ r. read_shown (read_of (read_at r) d)) q);
-        leaves = ap (λ r. channel_of ch (after_read_of (read_at r) c)) q ∙ agree ∙ sym (ap (λ r. channel_of ch (after_read_of (read_at r) d)) q);
+        answers = ap (λ r. read_shown (read_of (access_at r) c)) q ∙ sym (ap (λ r. read_shown (read_of (access_at r) d)) q);
+        leaves = ap (λ r. channel_of ch (after_read_of (access_at r) c)) q ∙ agree ∙ sym (ap (λ r. channel_of ch (after_read_of (access_at r) d)) q);
       }
   read_alike s false e h =
       let q = some_place s e in
       let e = channel_at s in
       let g = (place s).register in
       record {
-        answers = ap (λ r. read_shown (read_of (read_at r) c)) q
+        answers = ap (λ r. read_shown (read_of (access_at r) c)) q
             ∙ ap (λ x. read_shown (read_answer g x)) (same_channel ch e c d h agree)
-            ∙ sym (ap (λ r. read_shown (read_of (read_at r) d)) q);
-        leaves = ap (λ r. channel_of ch (after_read_of (read_at r) c)) q
+            ∙ sym (ap (λ r. read_shown (read_of (access_at r) d)) q);
+        leaves = ap (λ r. channel_of ch (after_read_of (access_at r) c)) q
             ∙ moved ch e (after_read g) c d h agree
-            ∙ sym (ap (λ r. channel_of ch (after_read_of (read_at r) d)) q);
+            ∙ sym (ap (λ r. channel_of ch (after_read_of (access_at r) d)) q);
       }
 
   write_alike : (s b : ℕ) (high : Bool) → ltb 7 s ≡ high → (high || same ch (channel_at s)) ≡ true → Alike ch (write s b) (write s b) c d
@@ -102,20 +102,20 @@ module _ (ch : ChannelId) (c d : Chip) (agree : channel_of ch c ≡ channel_of c
   write_alike s b true e h =
       let q = no_place s e in
       record {
-        answers = ap (λ r. write_shown (write_of (write_at r) c)) q ∙ sym (ap (λ r. write_shown (write_of (write_at r) d)) q);
-        leaves = ap (λ r. channel_of ch (after_write_of (write_at r) b c)) q ∙ agree ∙ sym (ap (λ r. channel_of ch (after_write_of (write_at r) b d)) q);
+        answers = ap (λ r. write_shown (write_of (access_at r) c)) q ∙ sym (ap (λ r. write_shown (write_of (access_at r) d)) q);
+        leaves = ap (λ r. channel_of ch (after_write_of (access_at r) b c)) q ∙ agree ∙ sym (ap (λ r. channel_of ch (after_write_of (access_at r) b d)) q);
       }
   write_alike s b false e h =
       let q = some_place s e in
       let e = channel_at s in
       let g = (place s).register in
       record {
-        answers = ap (λ r. write_shown (write_of (write_at r) c)) q
+        answers = ap (λ r. write_shown (write_of (access_at r) c)) q
             ∙ ap (λ x. note (write_answer g x)) (same_channel ch e c d h agree)
-            ∙ sym (ap (λ r. write_shown (write_of (write_at r) d)) q);
-        leaves = ap (λ r. channel_of ch (after_write_of (write_at r) b c)) q
+            ∙ sym (ap (λ r. write_shown (write_of (access_at r) d)) q);
+        leaves = ap (λ r. channel_of ch (after_write_of (access_at r) b c)) q
             ∙ moved ch e (after_write g b) c d h agree
-            ∙ sym (ap (λ r. channel_of ch (after_write_of (write_at r) b d)) q);
+            ∙ sym (ap (λ r. channel_of ch (after_write_of (access_at r) b d)) q);
       }
 
   alike : (k : Call) → concerns ch k ≡ true → Alike ch k (own ch k) c d
@@ -125,20 +125,20 @@ module _ (ch : ChannelId) (c d : Chip) (agree : channel_of ch c ≡ channel_of c
   alike (write s b) h = write_alike s b (ltb 7 s) refl h
   alike (modem e line l) h = record { answers = refl; leaves = moved ch e (modem_changed line l) c d h agree }
   alike (cycle i) h =
-      let whole = cycle_channel ch i c ∙ ap (cycled (rxd ch i) i.rxc i.txc) agree ∙ cycle_own ch i (channel_of ch d) ∙ sym (cycle_channel ch (own_inputs ch i) d) in
+      let whole = cycle_channel ch i c ∙ ap (cycled (rxd ch i) i.marks.rxc i.marks.txc) agree ∙ cycle_own ch i (channel_of ch d) ∙ sym (cycle_channel ch (own_inputs ch i) d) in
       record { answers = ap (λ a. reports a.0.report) whole; leaves = ap (λ a. a.1) whole }
 
 -- calls that are struck out leave the channel as it was
 read_apart : (ch : ChannelId) (s : ℕ) (c : Chip) (high : Bool) → ltb 7 s ≡ high → (high || same ch (channel_at s)) ≡ false → channel_of ch (after_read_once s c) ≡ channel_of ch c
 read_apart ch s c true e h = absurd (true≢false h)
 read_apart ch s c false e h =
-    ap (λ r. channel_of ch (after_read_of (read_at r) c)) (some_place s e)
+    ap (λ r. channel_of ch (after_read_of (access_at r) c)) (some_place s e)
     ∙ changed_other ch (channel_at s) (after_read (place s).register (channel_of (channel_at s) c)) c h
 
 write_apart : (ch : ChannelId) (s b : ℕ) (c : Chip) (high : Bool) → ltb 7 s ≡ high → (high || same ch (channel_at s)) ≡ false → channel_of ch (after_write_once s b c) ≡ channel_of ch c
 write_apart ch s b c true e h = absurd (true≢false h)
 write_apart ch s b c false e h =
-    ap (λ r. channel_of ch (after_write_of (write_at r) b c)) (some_place s e)
+    ap (λ r. channel_of ch (after_write_of (access_at r) b c)) (some_place s e)
     ∙ changed_other ch (channel_at s) (after_write (place s).register b (channel_of (channel_at s) c)) c h
 
 apart : (ch : ChannelId) (k : Call) (c : Chip) → concerns ch k ≡ false → channel_of ch (step k c) ≡ channel_of ch c

@@ -1,5 +1,5 @@
 -- The chip: two channels, and what each call answers and leaves.
-use Rattle.std.specs.Prelude.{ℕ, Bool, Ok, Err, Result}
+use Rattle.std.specs.Prelude.{ℕ, Bool, Option, Ok, Err, Result}
 use Rattle.terms.specs.declared.channel_id.ChannelId.{ChannelId}
 use Rattle.terms.specs.declared.channel_id.ChannelId.TheVariants.{One, Two}
 use Rattle.terms.specs.declared.modem_line.ModemLine.{ModemLine}
@@ -9,13 +9,11 @@ use Rattle.terms.specs.declared.refusal.Refusal.{Refusal}
 use Rattle.channel.specs.declared.channel.Channel.{Channel}
 use Rattle.channel.specs.Channel.{powered_on, after_reset, modem_changed}
 use Rattle.channel.specs.Calls.{read_answer, after_read, write_answer, after_write, cycled}
-use Rattle.dacia.specs.declared.access.ReadAccess.{ReadAccess}
-use Rattle.dacia.specs.declared.access.WriteAccess.{WriteAccess}
 use Rattle.dacia.specs.declared.chip.PoweredChip.{PoweredChip}
 use Rattle.dacia.specs.declared.chip.Chip.{Chip}
 use Rattle.dacia.specs.declared.chip.Inputs.{Inputs}
 use Rattle.dacia.specs.declared.chip.ChipAnswer.{ChipAnswer}
-use Rattle.dacia.specs.Access.{read_opened, write_opened}
+use Rattle.dacia.specs.Access.{ReadAccess, WriteAccess, read_opened, write_opened}
 
 abbrev pub channel_of : ChannelId → Chip → Channel
 channel_of One c = c.one
@@ -45,7 +43,7 @@ read_ended a c = read_answer a.place.register (channel_of a.place.channel c)
 abbrev pub after_read_ended : ReadAccess → Chip → Chip
 after_read_ended a c = with_channel a.place.channel (after_read a.place.register (channel_of a.place.channel c)) c
 
-abbrev pub write_ended : WriteAccess → Chip → WriteNote
+abbrev pub write_ended : WriteAccess → Chip → Option WriteNote
 write_ended a c = write_answer a.place.register (channel_of a.place.channel c)
 
 abbrev pub after_write_ended : WriteAccess → ℕ → Chip → Chip
@@ -60,7 +58,7 @@ abbrev pub after_read_of : Result ReadAccess Refusal → Chip → Chip
 after_read_of (Ok a) c = after_read_ended a c
 after_read_of (Err e) c = c
 
-abbrev pub write_of : Result WriteAccess Refusal → Chip → Result WriteNote Refusal
+abbrev pub write_of : Result WriteAccess Refusal → Chip → Result (Option WriteNote) Refusal
 write_of (Ok a) c = Ok (write_ended a c)
 write_of (Err e) c = Err e
 
@@ -74,7 +72,7 @@ read_once s c = read_of (read_opened s) c
 abbrev pub after_read_once : ℕ → Chip → Chip
 after_read_once s c = after_read_of (read_opened s) c
 
-abbrev pub write_once : ℕ → Chip → Result WriteNote Refusal
+abbrev pub write_once : ℕ → Chip → Result (Option WriteNote) Refusal
 write_once s c = write_of (write_opened s) c
 
 abbrev pub after_write_once : ℕ → ℕ → Chip → Chip
@@ -86,6 +84,6 @@ modem_on ch line l c = with_channel ch (modem_changed line l (channel_of ch c)) 
 -- a cycle: each channel has its RxD, and both have RxC and TxC
 abbrev pub chip_cycled : Inputs → Chip → ChipAnswer × Chip
 chip_cycled i c =
-    let one = cycled i.rxd1 i.rxc i.txc c.one in
-    let two = cycled i.rxd2 i.rxc i.txc c.two in
+    let one = cycled i.rxd1 i.marks.rxc i.marks.txc c.one in
+    let two = cycled i.rxd2 i.marks.rxc i.marks.txc c.two in
     (record { one = one.0; two = two.0 }, record { one = one.1; two = two.1 })

@@ -1,3 +1,4 @@
 pub mod Access
 pub mod Chip
 pub mod Separation
+pub mod Lending

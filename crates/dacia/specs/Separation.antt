@@ -1,5 +1,5 @@
 -- Separation: what one channel answers and shows does not depend on what is done to the other.
-use Rattle.std.specs.Prelude.{◌≡◌, ℕ, Bool, true, false, ◌||◌, List, [], ◌∷◌, ◌++◌, Ok, Err, Result, ◌==◌, nat_lt}
+use Rattle.std.specs.Prelude.{◌≡◌, ℕ, Bool, true, false, ◌||◌, List, [], ◌∷◌, ◌++◌, Option, Ok, Err, Result, ◌==◌, nat_lt}
 use Rattle.terms.specs.declared.channel_id.ChannelId.{ChannelId}
 use Rattle.terms.specs.declared.channel_id.ChannelId.TheVariants.{One, Two}
 use Rattle.terms.specs.declared.modem_line.ModemLine.{ModemLine}
@@ -34,19 +34,19 @@ step (write s b) c = after_write_once s b c
 step (modem ch line l) c = modem_on ch line l c
 step (cycle i) c = (chip_cycled i c).1
 
--- what a call answers to a channel: nothing, a byte and its note, a note, a refusal's number, or a report
+-- what a call answers to a channel: nothing, a byte and its note if any, a note if any, a refusal's number, or a report if any
 pub data Answer : Type 0 where
   silent : Answer
-  byte : ℕ → ReadNote → Answer
-  note : WriteNote → Answer
+  byte : ℕ → Option ReadNote → Answer
+  note : Option WriteNote → Answer
   refused : ℕ → Answer
-  reports : Report → Answer
+  reports : Option Report → Answer
 
 abbrev pub read_shown : Result Reading Refusal → Answer
 read_shown (Ok r) = byte r.byte r.note
 read_shown (Err e) = refused (refusal_number e)
 
-abbrev pub write_shown : Result WriteNote Refusal → Answer
+abbrev pub write_shown : Result (Option WriteNote) Refusal → Answer
 write_shown (Ok n) = note n
 write_shown (Err e) = refused (refusal_number e)
 
@@ -88,8 +88,8 @@ concerns ch (cycle i) = true
 
 -- the other channel's RxD struck out: any two levels there are alike
 abbrev pub own_inputs : ChannelId → Inputs → Inputs
-own_inputs One i = record { rxd1 = i.rxd1; rxd2 = true; rxc = i.rxc; txc = i.txc }
-own_inputs Two i = record { rxd1 = true; rxd2 = i.rxd2; rxc = i.rxc; txc = i.txc }
+own_inputs One i = record { rxd1 = i.rxd1; rxd2 = true; marks = i.marks }
+own_inputs Two i = record { rxd1 = true; rxd2 = i.rxd2; marks = i.marks }
 
 unfoldable pub own : ChannelId → Call → Call
 own ch reset = reset

@@ -1,29 +1,38 @@
 // Accesses: one is opened at a select, and has to be spent by ending it on a chip.
 ghost use Rattle.std.specs.Prelude.{◌≡◌, Ok, Err};
-ghost use Rattle.terms.specs.Refusal.{refusal_number, refused_by};
-ghost use Rattle.dacia.specs.Access.{register_at, place_at, select_of, read_opened, write_opened, opens_by};
+ghost use Rattle.terms.specs.Refusal.{refused_by};
+ghost use Rattle.dacia.specs.Access.{register_at, Names, select_of, access_opened, opens_by};
 
+use std::marker::PhantomData;
 use terms::channel_id::ChannelId;
 use terms::refusal::Refusal;
 use terms::register::Register;
 
 // The channel and the register that a select names.
 #[derive(Clone, Copy)]
-pub(crate) struct Place {
-    pub(crate) channel: ChannelId,
-    pub(crate) register: Register,
+pub struct Place {
+    pub channel: ChannelId,
+    pub register: Register,
 }
 
-// A read under way. It is no `Drop`: whoever opens one ends it.
-pub struct ReadAccess {
+// What an access is opened for.
+#[derive(Clone, Copy)]
+pub struct ForReading;
+
+#[derive(Clone, Copy)]
+pub struct ForWriting;
+
+// An access under way. It is no `Drop`: whoever opens one ends it.
+pub struct Access<K> {
     pub(crate) place: Place,
+    pub(crate) kind: PhantomData<K>,
 }
 
-// A write under way. It is no `Drop`: whoever opens one ends it.
-pub struct WriteAccess {
-    pub(crate) place: Place,
-}
+pub type ReadAccess = Access<ForReading>;
 
+pub type WriteAccess = Access<ForWriting>;
+
+// The register by the last two bits of its select.
 fn register_at(number: u8) -> Register
     ensures { result ≡ register_at number }
 {
@@ -35,42 +44,47 @@ fn register_at(number: u8) -> Register
     }
 }
 
-fn place_at(select: u8) -> Result<Place, Refusal>
-    ensures is { result ≡ place_at select }
-    ensures numbered { elim result [ Ok p ↦ select_of p ≡ select | Err e ↦ refusal_number e ≡ 1 ] }
-{
-    if select > 7 {
-        return Err(Refusal::NoSuchSelect);
-    }
-    let channel = if select < 4 {
-        ChannelId::One
-    } else {
-        ChannelId::Two
-    };
-    Ok(Place {
-        channel,
-        register: register_at(select % 4),
-    })
-}
+impl TryFrom<u8> for Place {
+    type Error = Refusal;
 
-impl ReadAccess {
-    // Opens a read; a select above 7 opens nothing.
-    pub fn open(select: u8) -> Result<ReadAccess, Refusal>
-        ensures is { result ≡ read_opened select }
-        ensures refusals { refused_by result ≡ opens_by select }
-    {
-        let place = place_at(select)?;
-        Ok(ReadAccess { place })
+    ghost try_from_gives = { Names };
+
+    fn try_from(select: u8) -> Result<Place, Refusal> {
+        let channel = match select {
+            0..=3 => ChannelId::One,
+            4..=7 => ChannelId::Two,
+            _ => return Err(Refusal::NoSuchSelect),
+        };
+        Ok(Place {
+            channel,
+            register: register_at(select % 4),
+        })
     }
 }
 
-impl WriteAccess {
-    // Opens a write; a select above 7 opens nothing.
-    pub fn open(select: u8) -> Result<WriteAccess, Refusal>
-        ensures is { result ≡ write_opened select }
+impl Place {
+    // The select that names it.
+    pub fn select(self) -> u8
+        ensures { result ≡ select_of self }
+    {
+        let first = match self.channel {
+            ChannelId::One => 0,
+            ChannelId::Two => 4,
+        };
+        first + self.register.number()
+    }
+}
+
+impl<K> Access<K> {
+    // Opens an access; a select above 7 opens nothing.
+    pub fn open(select: u8) -> Result<Access<K>, Refusal>
+        ensures is { result ≡ access_opened select }
         ensures refusals { refused_by result ≡ opens_by select }
     {
-        let place = place_at(select)?;
-        Ok(WriteAccess { place })
+        let place = Place::try_from(select)?;
+        Ok(Access {
+            place,
+            kind: PhantomData,
+        })
     }
 }

@@ -5,9 +5,12 @@ ghost use Rattle.channel.specs.Channel.{txd_of, irq_of};
 ghost use Rattle.dacia.specs.Access.{opens_by, reads_by, read_by};
 ghost use Rattle.dacia.specs.Chip.{channel_of, powered_chip, first_reset, chip_reset, read_ended, after_read_ended, write_ended, after_write_ended, modem_on, chip_cycled, read_once, after_read_once, write_once, after_write_once};
 ghost use Rattle.dacia.specs.Separation.{Separated};
+ghost use Rattle.dacia.specs.Lending.{LendsChannel};
+ghost use Rattle.std.specs.Borrow.{sem};
 
-use crate::access::{ReadAccess, WriteAccess};
-use channel::channel::{Channel, ChannelAnswer};
+use crate::access::{Access, ReadAccess, WriteAccess};
+use channel::channel::{Channel, ChannelAnswer, Marks};
+use std::marker::PhantomData;
 use terms::channel_id::ChannelId;
 use terms::modem_line::ModemLine;
 use terms::note::{Reading, WriteNote};
@@ -27,17 +30,16 @@ pub struct Chip {
     two: Channel,
 }
 
-// The input levels of a cycle, and whether it is marked RxC and TxC.
-#[derive(Clone, Copy)]
+// The input levels of a cycle, and its marks.
+#[derive(Clone, Copy, PartialEq, Eq, Debug)]
 pub struct Inputs {
     pub rxd1: bool,
     pub rxd2: bool,
-    pub rxc: bool,
-    pub txc: bool,
+    pub marks: Marks,
 }
 
 // What the chip answers to a cycle.
-#[derive(Clone, Copy)]
+#[derive(Clone, Copy, PartialEq, Eq, Debug)]
 pub struct ChipAnswer {
     pub one: ChannelAnswer,
     pub two: ChannelAnswer,
@@ -72,6 +74,25 @@ impl PoweredChip {
 }
 
 impl Chip {
+    fn channel(&self, channel: ChannelId) -> &Channel
+        ensures { result.now ≡ channel_of channel self.now }
+    {
+        match channel {
+            ChannelId::One => &self.one,
+            ChannelId::Two => &self.two,
+        }
+    }
+
+    fn channel_mut(&mut self, channel: ChannelId) -> &mut Channel
+        ensures* writes_back { sem 𝓛 (LendsChannel channel self.entry result) }
+        ensures value { result.now ≡ channel_of channel self.old }
+    {
+        match channel {
+            ChannelId::One => &mut self.one,
+            ChannelId::Two => &mut self.two,
+        }
+    }
+
     pub fn reset(&mut self)
         ensures { self.new ≡ chip_reset self.old }
     {
@@ -85,23 +106,23 @@ impl Chip {
         ensures leaves { self.new ≡ after_read_ended access self.old }
         ensures refusals { refused_by result ≡ reads_by access.place.register }
     {
-        let ReadAccess { place } = access;
-        match place.channel {
-            ChannelId::One => self.one.read(place.register),
-            ChannelId::Two => self.two.read(place.register),
-        }
+        let Access {
+            place,
+            kind: PhantomData,
+        } = access;
+        self.channel_mut(place.channel).read(place.register)
     }
 
     // Ends a write, with the byte to write: it works now, on this chip.
-    pub fn end_write(&mut self, access: WriteAccess, byte: u8) -> WriteNote
+    pub fn end_write(&mut self, access: WriteAccess, byte: u8) -> Option<WriteNote>
         ensures answers { result ≡ write_ended access self.old }
         ensures leaves { self.new ≡ after_write_ended access byte self.old }
     {
-        let WriteAccess { place } = access;
-        match place.channel {
-            ChannelId::One => self.one.write(place.register, byte),
-            ChannelId::Two => self.two.write(place.register, byte),
-        }
+        let Access {
+            place,
+            kind: PhantomData,
+        } = access;
+        self.channel_mut(place.channel).write(place.register, byte)
     }
 
     // A read that is opened and ended with nothing between.
@@ -115,7 +136,7 @@ impl Chip {
     }
 
     // A write that is opened and ended with nothing between.
-    pub fn write(&mut self, select: u8, byte: u8) -> Result<WriteNote, Refusal>
+    pub fn write(&mut self, select: u8, byte: u8) -> Result<Option<WriteNote>, Refusal>
         ensures answers { result ≡ write_once select self.old }
         ensures leaves { self.new ≡ after_write_once select byte self.old }
         ensures refusals { refused_by result ≡ opens_by select }
@@ -128,18 +149,15 @@ impl Chip {
     pub fn set_modem(&mut self, channel: ChannelId, line: ModemLine, level: bool)
         ensures { self.new ≡ modem_on channel line level self.old }
     {
-        match channel {
-            ChannelId::One => self.one.set_modem(line, level),
-            ChannelId::Two => self.two.set_modem(line, level),
-        }
+        self.channel_mut(channel).set_modem(line, level);
     }
 
     // One cycle of both channels.
     pub fn cycle(&mut self, inputs: Inputs) -> ChipAnswer
         ensures { (result, self.new) ≡ chip_cycled inputs self.old }
     {
-        let one = self.one.cycle(inputs.rxd1, inputs.rxc, inputs.txc);
-        let two = self.two.cycle(inputs.rxd2, inputs.rxc, inputs.txc);
+        let one = self.one.cycle(inputs.rxd1, inputs.marks);
+        let two = self.two.cycle(inputs.rxd2, inputs.marks);
         ChipAnswer { one, two }
     }
 
@@ -147,19 +165,13 @@ impl Chip {
     pub fn txd(&self, channel: ChannelId) -> bool
         ensures { result ≡ txd_of (channel_of channel self.now) }
     {
-        match channel {
-            ChannelId::One => self.one.txd(),
-            ChannelId::Two => self.two.txd(),
-        }
+        self.channel(channel).txd()
     }
 
     // The level of an IRQ pin.
     pub fn irq(&self, channel: ChannelId) -> bool
         ensures { result ≡ irq_of (channel_of channel self.now) }
     {
-        match channel {
-            ChannelId::One => self.one.irq(),
-            ChannelId::Two => self.two.irq(),
-        }
+        self.channel(channel).irq()
     }
 }

@@ -1,17 +1,16 @@
 -- Worked figures of the chip, over the definitions of its calls.
-use Rattle.std.specs.Prelude.{◌≡◌, ℕ, zero, suc, Bool, true, false, List, [], ◌∷◌, ◌++◌, map, replicate, Ok, Result}
+use Rattle.std.specs.Prelude.{◌≡◌, ℕ, zero, suc, Bool, true, false, List, [], ◌∷◌, ◌++◌, map, replicate, Some, None, Ok, Result}
 use Rattle.terms.specs.declared.channel_id.ChannelId.TheVariants.{One}
 use Rattle.terms.specs.declared.note.Reading.{Reading}
 use Rattle.terms.specs.declared.note.ReadNote.TheVariants.{Fresh}
 use Rattle.terms.specs.declared.refusal.Refusal.{Refusal}
 use Rattle.terms.specs.declared.report.Report.{Report}
-use Rattle.terms.specs.declared.report.ReportKind.{ReportKind}
-use Rattle.terms.specs.declared.report.ReportKind.TheVariants.{Nothing, Break, Passed, Lost, Kept}
+use Rattle.terms.specs.declared.report.ReportKind.TheVariants.{Break, Passed, Lost, Kept}
 use Rattle.serial.specs.Frame.{bit, frame}
 use Rattle.serial.specs.Format.{frame_bits}
 use Rattle.channel.specs.Control.{format_of}
 use Rattle.channel.specs.Calls.{plainly}
-use Rattle.channel.specs.Receiving.{reported}
+use Rattle.channel.specs.Receiving.{report}
 use Rattle.dacia.specs.declared.chip.Chip.{Chip}
 use Rattle.dacia.specs.Chip.{newly_reset, read_once}
 use Rattle.dacia.specs.Separation.{Call, read, write, cycle, step, Answer, silent, byte, note, refused, reports, Shown, seen}
@@ -38,10 +37,10 @@ levels cr fr w = let x = format_of cr fr in stretched 16 (bits_from (frame x w) 
 
 -- a cycle that is a tick of the receivers, with a level on RxD1; and one that is a tick of the transmitters
 abbrev pub rx_tick : Bool → Call
-rx_tick l = cycle (record { rxd1 = l; rxd2 = true; rxc = true; txc = false })
+rx_tick l = cycle (record { rxd1 = l; rxd2 = true; marks = record { rxc = true; txc = false } })
 
 abbrev pub tx_tick : Call
-tx_tick = cycle (record { rxd1 = true; rxd2 = true; rxc = false; txc = true })
+tx_tick = cycle (record { rxd1 = true; rxd2 = true; marks = record { rxc = false; txc = true } })
 
 abbrev pub hearing : List Bool → List Call
 hearing ls = map rx_tick ls
@@ -53,20 +52,14 @@ eight_bits = write 1 0x0f ∷ write 1 0xe0 ∷ []
 abbrev pub ready_for_words : List Call
 ready_for_words = eight_bits ++ read 3 ∷ []
 
--- the reports of channel 1 but none
-abbrev pub unless_nothing : ReportKind → Report → List Report
-unless_nothing Nothing r = []
-unless_nothing Break r = r ∷ []
-unless_nothing Passed r = r ∷ []
-unless_nothing Lost r = r ∷ []
-unless_nothing Kept r = r ∷ []
-
+-- the reports of channel 1, but none
 abbrev pub report_in : Answer → List Report
 report_in silent = []
 report_in (byte b n) = []
 report_in (note n) = []
 report_in (refused n) = []
-report_in (reports r) = unless_nothing r.kind r
+report_in (reports None) = []
+report_in (reports (Some r)) = r ∷ []
 
 abbrev pub all_reports : List Shown → List Report
 all_reports [] = []
@@ -80,7 +73,7 @@ abbrev pub sending_of : List Call → Chip → List Bool
 sending_of ks c = map (λ s. s.txd) (seen One ks c)
 
 abbrev pub freshly : ℕ → Result Reading Refusal
-freshly b = Ok (record { byte = b; note = Fresh })
+freshly b = Ok (record { byte = b; note = Some Fresh })
 
 abbrev pub first_bytes : Result FirstBytes Refusal
 first_bytes = Ok (record { isr = 0xc1; csr = 0x43 })
@@ -98,16 +91,16 @@ pub record Figures : Type 0 where
   pub odd_parity : bit (frame (format_of 0 0xc4) 0x41) 8 ≡ true
   -- a start bit lasts at least nine ticks
   pub eight_low : reports_of (ready_for_words ++ hearing (replicate 8 false ++ replicate 200 true)) ≡ []
-  pub nine_low : reports_of (ready_for_words ++ hearing (replicate 9 false ++ replicate 200 true)) ≡ reported Kept 0xff ∷ []
+  pub nine_low : reports_of (ready_for_words ++ hearing (replicate 9 false ++ replicate 200 true)) ≡ report Kept 0xff ∷ []
   -- ten low bits, with RDRF set and with RDRF clear: bit 0 of ISR stays as it was
-  pub break_full : reports_of (eight_bits ++ hearing (replicate 160 false)) ≡ reported Break 0 ∷ []
+  pub break_full : reports_of (eight_bits ++ hearing (replicate 160 false)) ≡ report Break 0 ∷ []
   pub break_full_isr : read_once 0 (after (eight_bits ++ hearing (replicate 160 false)) newly_reset) ≡ plainly 0xc3
-  pub break_empty : reports_of (ready_for_words ++ hearing (replicate 160 false)) ≡ reported Break 0 ∷ []
+  pub break_empty : reports_of (ready_for_words ++ hearing (replicate 160 false)) ≡ report Break 0 ∷ []
   pub break_empty_isr : read_once 0 (after (ready_for_words ++ hearing (replicate 160 false)) newly_reset) ≡ plainly 0xc2
   -- a second word unread
-  pub lost_word : reports_of (ready_for_words ++ hearing (levels 0x0f 0xe0 0x31 ++ levels 0x0f 0xe0 0x46)) ≡ reported Kept 0x31 ∷ reported Lost 0x46 ∷ []
+  pub lost_word : reports_of (ready_for_words ++ hearing (levels 0x0f 0xe0 0x31 ++ levels 0x0f 0xe0 0x46)) ≡ report Kept 0x31 ∷ report Lost 0x46 ∷ []
   pub first_stays : read_once 3 (after (ready_for_words ++ hearing (levels 0x0f 0xe0 0x31 ++ levels 0x0f 0xe0 0x46)) newly_reset) ≡ freshly 0x31
   -- CDR $41: asleep up to and with the word $41
   pub compares :
       reports_of (ready_for_words ++ write 2 0x41 ∷ hearing (levels 0x0f 0xe0 0x10 ++ levels 0x0f 0xe0 0x41 ++ levels 0x0f 0xe0 0x42))
-      ≡ reported Passed 0x10 ∷ reported Passed 0x41 ∷ reported Kept 0x42 ∷ []
+      ≡ report Passed 0x10 ∷ report Passed 0x41 ∷ report Kept 0x42 ∷ []

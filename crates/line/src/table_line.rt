@@ -37,11 +37,6 @@ impl Line for TableLine {
     }
 
     fn is_quiet(&self) -> bool {
-        for level in &self.table {
-            if !*level {
-                return false;
-            }
-        }
-        true
+        self.table.iter().all(|level| *level)
     }
 }

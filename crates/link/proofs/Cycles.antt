@@ -12,8 +12,7 @@ use Rattle.serial.specs.Receiver.{heard}
 use Rattle.serial.specs.Transmitter.{level, frame_ticks, taken}
 use Rattle.serial.proofs.Formats.{frame_bounds}
 use Rattle.channel.specs.Sender.{handed, sent}
-use Rattle.line.specs.Line.{leaves, held}
-use Rattle.line.proofs.Levels.{length_held}
+use Rattle.line.specs.Line.{leaves, held, length_held}
 use Rattle.link.proofs.Runs.{R, after, turn_r}
 use Rattle.link.proofs.WholeFrame.{level_at}
 use Rattle.link.proofs.Flow.{Flow, flow_idle, flow_step, flow_frame}

@@ -18,10 +18,9 @@ use Rattle.channel.specs.declared.sender.Sender.{Sender}
 use Rattle.channel.specs.declared.receiving.Receiving.{Receiving}
 use Rattle.channel.specs.Sender.{filled, sent}
 use Rattle.channel.specs.Receiving.{emptied, with_receiver, passed_by, overrun, kept as kept_by, ending, perhaps_ending}
-use Rattle.line.specs.Line.{held}
-use Rattle.line.proofs.Levels.{length_held}
+use Rattle.line.specs.Line.{held, length_held}
 use Rattle.link.specs.Link.{Link, given, taken, idled, ticked_on, link_cycle}
-use Rattle.link.specs.Past.{Past, nothing_yet, arrived_of, kept_of, only, row_after, longest_after, past_cycle, past_write, past_read}
+use Rattle.link.specs.Past.{Past, nothing_yet, arrived_of, kept_of, words_of, only, row_after, longest_after, past_cycle, past_write, past_read}
 use Rattle.link.proofs.Runs.{R, outs, run, run_log}
 use Rattle.link.proofs.Flow.{Flow}
 use Rattle.link.proofs.Pending.{pending, pend_most}
@@ -74,11 +73,11 @@ words_push [] r = refl
 words_push (q ∷ log) r = ap (λ z. q.word ∷ z) (words_push log r)
 
 -- the end of a clean frame: it is kept, or lost where RDRF is set
-pub record Ended (log : List Received) (frame : Option Received) (r : Receiving) (p : Past) (e : Report × Receiving) : Type 0 where
+pub record Ended (log : List Received) (frame : Option Received) (r : Receiving) (p : Past) (e : Option Report × Receiving) : Type 0 where
   pub receiver : e.1.receiver ≡ r.receiver
-  pub arrivals : p.arrived ++ arrived_of e.0.kind e.0.word ≡ words (log ++ outs frame)
+  pub arrivals : p.arrived ++ words_of arrived_of e.0 ≡ words (log ++ outs frame)
   pub clean : Clean e.1
-  pub reads : p.fresh ++ only e.1.rdrf e.1.rdr ≡ p.kept ++ kept_of e.0.kind e.0.word
+  pub reads : p.fresh ++ only e.1.rdrf e.1.rdr ≡ p.kept ++ words_of kept_of e.0
 
 ended_clean : (x : Format) (v : ℕ) (log : List Received) (r : Receiving) (p : Past) → Clean r → p.arrived ≡ words log → p.fresh ++ only r.rdrf r.rdr ≡ p.kept →
     (asleep rdrf : Bool) → r.asleep ≡ asleep → r.rdrf ≡ rdrf → let f : Received = sent_as x v in
@@ -161,7 +160,7 @@ module _ (x : Format) (d D : ℕ) where
       }
 
   turned : (k : Link) (p : Past) → LinkInv x d D k p → (b : Bool) → ltb (k.phase + 1) D ≡ b →
-      let c : Report × Link = cond b (idled k) (ticked_on x k) in LinkInv x d D c.1 (past_cycle k.cts c.0 p)
+      let c : Option Report × Link = cond b (idled k) (ticked_on x k) in LinkInv x d D c.1 (past_cycle k.cts c.0 p)
   turned k p i true e = idle_inv k p i e
   turned k p i false e = tick_inv k p i e
 

@@ -6,11 +6,11 @@ use Rattle.std.proofs.lemmas.Bool.{eq-eqb, ne_eqb, eqb-true, eqb-false, lt-ltb, 
 use Rattle.serial.specs.declared.parity.Parity.{Parity}
 use Rattle.serial.specs.declared.format.Format.{Format}
 use Rattle.serial.specs.declared.receiver.Receiver.{Receiver}
-use Rattle.serial.specs.declared.receiver.Receiver.TheVariants.{Hunting, Gathering}
+use Rattle.serial.specs.declared.receiver.Receiver.TheVariants.{Hunting}
 use Rattle.serial.specs.declared.receiver.Received.{Received}
 use Rattle.serial.specs.Format.{data_bits, parity_bits, stop_bits, stop_at, frame_bits, cut}
 use Rattle.serial.specs.Frame.{bit, weight, check_bit, frame}
-use Rattle.serial.specs.Receiver.{with_bit, word_of, parity_in, parity_of, received, ended, sampled, counted, heard}
+use Rattle.serial.specs.Receiver.{gathering, with_bit, word_of, parity_in, parity_of, received, ended, sampled, counted, heard}
 use Rattle.serial.proofs.Bits.{low_more, or_above}
 use Rattle.serial.proofs.Formats.{stop_bounds, check_bit_low, cut_low}
 use Rattle.serial.proofs.Frames.{below_stops, low_part, frame_law}
@@ -56,11 +56,11 @@ module _ (x : Format) (f : ℕ) (start : bit f 0 ≡ false) where
 
   -- a count inside the frame
   counting : (c : ℕ) (b : Bool) → eqb ((c + 1) % 16) 8 ≡ b →
-      cond b (sampled x (c + 1) (low_at f c) (level_at f (c + 1))) (Gathering x (c + 1) (low_at f c)) ≡ Gathering x (c + 1) (low_at f (c + 1))
+      cond b (sampled x (c + 1) (low_at f c) (level_at f (c + 1))) (gathering x (c + 1) (low_at f c)) ≡ gathering x (c + 1) (low_at f (c + 1))
   counting c false e =
       let off = eqb-false ((c + 1) % 16) 8 e in
       let same : (c + 8) / 16 ≡ ((c + 1) + 8) / 16 = omega (arith, off) in
-      ap (λ z. Gathering x (c + 1) (f % 2 ^ z)) same
+      ap (λ z. gathering x (c + 1) (f % 2 ^ z)) same
   counting c true e =
       let k : ℕ = (c + 1) / 16 in
       let mid = eqb-true ((c + 1) % 16) 8 e in
@@ -69,11 +69,11 @@ module _ (x : Format) (f : ℕ) (start : bit f 0 ≡ false) where
       let l : Bool = level_at f (c + 1) in
       let more : with_bit (low_at f c) l k ≡ low_at f (c + 1) =
       ap (λ z. with_bit (f % 2 ^ z) l k) now ∙ with_bit_lem f k ∙ ap (λ z. f % 2 ^ z) (sym next) in
-      cond-false (eqb (c + 1) 8 && l) Hunting (Gathering x (c + 1) (with_bit (low_at f c) l k)) (no_false_start (c + 1) (eqb (c + 1) 8) refl)
-      ∙ ap (λ z. Gathering x (c + 1) z) more
+      cond-false (eqb (c + 1) 8 && l) Hunting (gathering x (c + 1) (with_bit (low_at f c) l k)) (no_false_start (c + 1) (eqb (c + 1) 8) refl)
+      ∙ ap (λ z. gathering x (c + 1) z) more
 
   gather_step : (c : ℕ) → c + 1 < 16 * stop_at x + 8 →
-      heard x (level_at f (c + 1)) (Gathering x c (low_at f c)) ≡ (None, Gathering x (c + 1) (low_at f (c + 1)))
+      heard x (level_at f (c + 1)) (gathering x c (low_at f c)) ≡ (None, gathering x (c + 1) (low_at f (c + 1)))
   gather_step c h =
       let l : Bool = level_at f (c + 1) in
       let b : ℕ = low_at f c in
@@ -81,13 +81,13 @@ module _ (x : Format) (f : ℕ) (start : bit f 0 ≡ false) where
       ∙ ap (λ z. (None, z)) (counting c (eqb ((c + 1) % 16) 8) refl)
 
   gather_run : (m c φ : ℕ) (log : List Received) → c + m < 16 * stop_at x + 8 →
-      tick_all x (ticks f (c + 1) m) (at φ log (Gathering x c (low_at f c))) ≡ at φ log (Gathering x (c + m) (low_at f (c + m)))
-  gather_run zero c φ log h = ap (λ z. at φ log (Gathering x z (low_at f z))) (omega arith)
+      tick_all x (ticks f (c + 1) m) (at φ log (gathering x c (low_at f c))) ≡ at φ log (gathering x (c + m) (low_at f (c + m)))
+  gather_run zero c φ log h = ap (λ z. at φ log (gathering x z (low_at f z))) (omega arith)
   gather_run (suc m) c φ log h =
       ap (λ t. tick_all x (ticks f ((c + 1) + 1) m) (after φ log t)) (gather_step c (omega arith))
-      ∙ ap (λ z. tick_all x (ticks f ((c + 1) + 1) m) (at φ z (Gathering x (c + 1) (low_at f (c + 1))))) (append-nil log)
+      ∙ ap (λ z. tick_all x (ticks f ((c + 1) + 1) m) (at φ z (gathering x (c + 1) (low_at f (c + 1))))) (append-nil log)
       ∙ gather_run m (c + 1) φ log (omega arith)
-      ∙ ap (λ z. at φ log (Gathering x z (low_at f z))) (omega arith)
+      ∙ ap (λ z. at φ log (gathering x z (low_at f z))) (omega arith)
 
 -- high ticks leave a hunting receiver as it is
 high_ticks : (x : Format) (f m c φ : ℕ) (log : List Received) → ((j : ℕ) → c ≤ j → j < c + m → level_at f j ≡ true) →
@@ -150,7 +150,7 @@ module _ (x : Format) (w : ℕ) (w_low : w < 2 ^ data_bits x.bits) where
 
 -- the tick that samples the first stop bit
 last_step : (x : Format) (v c : ℕ) → c ≡ 16 * stop_at x + 7 →
-    heard x (level_at (frame x v) (c + 1)) (Gathering x c (low_at (frame x v) c)) ≡ (Some (clean x (cut x v)), Hunting)
+    heard x (level_at (frame x v) (c + 1)) (gathering x c (low_at (frame x v) c)) ≡ (Some (clean x (cut x v)), Hunting)
 last_step x v c h =
     let f : ℕ = frame x v in
     let w : ℕ = cut x v in
@@ -186,16 +186,16 @@ whole_frame x v φ log =
     let parts : 16 * frame_bits x ≡ suc (a + suc b) = omega arith in
     let one : (0 + 1) + a ≡ a + 1 = omega arith in
     let nought : 0 + a ≡ a = omega arith in
-    let zeroed : at φ (log ++ []) (Gathering x 0 0) ≡ at φ log (Gathering x 0 (low_at f 0)) =
-    ap (λ z. at φ z (Gathering x 0 0)) (append-nil log) ∙ ap (λ z. at φ log (Gathering x 0 z)) (omega arith) in
+    let zeroed : at φ (log ++ []) (gathering x 0 0) ≡ at φ log (gathering x 0 (low_at f 0)) =
+    ap (λ z. at φ z (gathering x 0 0)) (append-nil log) ∙ ap (λ z. at φ log (gathering x 0 z)) (omega arith) in
     ap (λ m. tick_all x (ticks f 0 m) (at φ log Hunting)) parts
     ∙ ap (λ l. tick_all x (ticks f (0 + 1) (a + suc b)) (tick_r x l (at φ log Hunting))) law.start_low
     ∙ ap (λ r. tick_all x (ticks f (0 + 1) (a + suc b)) r) zeroed
-    ∙ ap (λ ls. tick_all x ls (at φ log (Gathering x 0 (low_at f 0)))) (ticks-++ f a (suc b) (0 + 1))
-    ∙ tick_all-++ x (ticks f (0 + 1) a) (ticks f ((0 + 1) + a) (suc b)) (at φ log (Gathering x 0 (low_at f 0)))
+    ∙ ap (λ ls. tick_all x ls (at φ log (gathering x 0 (low_at f 0)))) (ticks-++ f a (suc b) (0 + 1))
+    ∙ tick_all-++ x (ticks f (0 + 1) a) (ticks f ((0 + 1) + a) (suc b)) (at φ log (gathering x 0 (low_at f 0)))
     ∙ ap (λ r. tick_all x (ticks f ((0 + 1) + a) (suc b)) r) (gather_run x f law.start_low a 0 φ log (omega arith))
-    ∙ ap (λ c. tick_all x (ticks f c (suc b)) (at φ log (Gathering x (0 + a) (low_at f (0 + a))))) one
-    ∙ ap (λ c. tick_all x (ticks f (a + 1) (suc b)) (at φ log (Gathering x c (low_at f c)))) nought
+    ∙ ap (λ c. tick_all x (ticks f c (suc b)) (at φ log (gathering x (0 + a) (low_at f (0 + a))))) one
+    ∙ ap (λ c. tick_all x (ticks f (a + 1) (suc b)) (at φ log (gathering x c (low_at f c)))) nought
     ∙ ap (λ t. tick_all x (ticks f ((a + 1) + 1) b) (after φ log t)) (last_step x v a refl)
     ∙ high_ticks x f b ((a + 1) + 1) φ end (λ j lo hi.
     let m : ℕ = j / 16 - stop_at x in

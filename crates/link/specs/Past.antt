@@ -1,8 +1,8 @@
 -- What was seen of one direction of a board, in order, oldest first.
-use Rattle.std.specs.Prelude.{ℕ, suc, max, Bool, true, false, List, [], ◌∷◌, ◌++◌}
+use Rattle.std.specs.Prelude.{ℕ, suc, max, Bool, true, false, List, [], ◌∷◌, ◌++◌, Some, None, Option}
 use Rattle.terms.specs.declared.report.Report.{Report}
 use Rattle.terms.specs.declared.report.ReportKind.{ReportKind}
-use Rattle.terms.specs.declared.report.ReportKind.TheVariants.{Nothing, Break, Passed, Lost, Kept}
+use Rattle.terms.specs.declared.report.ReportKind.TheVariants.{Break, Passed, Lost, Kept}
 
 -- the words that the far channel reported kept or lost, those that it kept, those of its fresh reads; the words written to the near TDR
 -- without each that the next write replaced, where the Bool says that a write still to come replaces the last;
@@ -18,20 +18,23 @@ pub record Past : Type 0 where
 abbrev pub nothing_yet : Past
 nothing_yet = record { arrived = []; kept = []; fresh = []; unreplaced = λ b. []; row = 0; longest = 0 }
 
--- the word of a report of kept or lost, and of kept alone
+-- the words that count for a report of kept or lost, and of kept alone
 abbrev pub arrived_of : ReportKind → ℕ → List ℕ
-arrived_of Nothing w = []
 arrived_of Break w = []
 arrived_of Passed w = []
 arrived_of Lost w = w ∷ []
 arrived_of Kept w = w ∷ []
 
 abbrev pub kept_of : ReportKind → ℕ → List ℕ
-kept_of Nothing w = []
 kept_of Break w = []
 kept_of Passed w = []
 kept_of Lost w = []
 kept_of Kept w = w ∷ []
+
+-- and of a report, if there is one
+abbrev pub words_of : (ReportKind → ℕ → List ℕ) → Option Report → List ℕ
+words_of g None = []
+words_of g (Some r) = g r.kind r.word
 
 abbrev pub only : {A : Type 0} → Bool → A → List A
 only true a = a ∷ []
@@ -50,11 +53,11 @@ abbrev pub longest_after : Bool → ℕ → ℕ → ℕ
 longest_after true row longest = longest
 longest_after false row longest = max longest (suc row)
 
--- a cycle with the near CTS at a level and a report of the far channel
-abbrev pub past_cycle : Bool → Report → Past → Past
+-- a cycle with the near CTS at a level and a report of the far channel, if it has one
+abbrev pub past_cycle : Bool → Option Report → Past → Past
 past_cycle cts r p = record {
-  arrived = p.arrived ++ arrived_of r.kind r.word;
-  kept = p.kept ++ kept_of r.kind r.word;
+  arrived = p.arrived ++ words_of arrived_of r;
+  kept = p.kept ++ words_of kept_of r;
   fresh = p.fresh;
   unreplaced = p.unreplaced;
   row = row_after cts p.row;

@@ -1,13 +1,9 @@
 -- Bits of numbers.
 use Rattle.std.proofs.Common.{◌≡◌, ℕ, zero, suc, ◌+◌, ◌-◌, ◌*◌, ◌/◌, ◌%◌, ◌^◌, ◌<◌, eqb, refl, ap, ◌∙◌, mod-lt, arith}
-use lib.Bits.{bit_and, bit_or}
+use lib.Bits.{bit_or}
 use lib.Pow.{mod-mod-pow, mod-pow-add}
-use Rattle.std.proofs.lemmas.Nat.{field_of, and_mask, or_comm, or_shifted}
+use Rattle.std.proofs.lemmas.Nat.{field_of, or_comm, or_shifted}
 use Rattle.serial.specs.Frame.{bit, weight}
-
--- one bit by a mask
-pub and_one : (n : ℕ) → bit_and n 1 ≡ n % 2
-and_one n = and_mask n 1
 
 -- a bit below m is a bit of the number's low part
 pub bit_low : (f m k : ℕ) → k < m → bit (f % 2 ^ m) k ≡ bit f k

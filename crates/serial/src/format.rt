@@ -7,39 +7,31 @@ use crate::parity::Parity;
 
 #[derive(Clone, Copy)]
 pub enum DataBits {
-    Five,
-    Six,
-    Seven,
-    Eight,
+    Five = 5,
+    Six = 6,
+    Seven = 7,
+    Eight = 8,
 }
 
 impl DataBits {
     pub(crate) fn count(self) -> u8
         ensures { result ≡ data_bits self }
     {
-        match self {
-            DataBits::Five => 5,
-            DataBits::Six => 6,
-            DataBits::Seven => 7,
-            DataBits::Eight => 8,
-        }
+        self as u8
     }
 }
 
 #[derive(Clone, Copy)]
 pub enum StopBits {
-    One,
-    Two,
+    One = 1,
+    Two = 2,
 }
 
 impl StopBits {
     pub(crate) fn count(self) -> u8
         ensures { result ≡ stop_bits self }
     {
-        match self {
-            StopBits::One => 1,
-            StopBits::Two => 2,
-        }
+        self as u8
     }
 }
 
@@ -63,11 +55,7 @@ impl Format {
     pub(crate) fn stop_at(self) -> u8
         ensures { result ≡ stop_at self }
     {
-        let parity = match self.parity {
-            Some(_) => 1,
-            None => 0,
-        };
-        1 + self.bits.count() + parity
+        1 + self.bits.count() + u8::from(self.parity.is_some())
     }
 
     // The number of bits of a frame.
@@ -88,10 +76,7 @@ impl Format {
     pub(crate) fn check_bit(self, word: u8) -> u8
         ensures { result ≡ check_bit self.parity word }
     {
-        match self.parity {
-            Some(parity) => parity.bit(word),
-            None => 0,
-        }
+        self.parity.map_or(0, |parity| parity.bit(word))
     }
 
     // The frame of a word: bit 0 is sent first.

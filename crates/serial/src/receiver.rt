@@ -1,17 +1,21 @@
 // A receiver: it hunts for a start bit, gathers the bits of a frame, or waits for the line to go high.
 ghost use Rattle.std.specs.Prelude.{◌≡◌, ◌+◌, ◌<◌, Bool};
-ghost use Rattle.serial.specs.Receiver.{with_bit, word_of, parity_of, received, counted, gathered, heard};
+ghost use Rattle.serial.specs.Receiver.{begun, grown, word_of, parity_of, received, counted, gathered, heard};
 
 use crate::format::{Format, bit_at};
+
+// A frame under way: the format that it began with, the ticks since then, and the bits that were gathered.
+#[derive(Clone, Copy)]
+pub struct Gathering {
+    pub format: Format,
+    pub count: u8,
+    pub bits: u16,
+}
 
 #[derive(Clone, Copy)]
 pub enum Receiver {
     Hunting,
-    Gathering {
-        format: Format,
-        count: u8,
-        bits: u16,
-    },
+    Gathering(Gathering),
     Waiting,
 }
 
@@ -25,54 +29,75 @@ pub struct Received {
     pub low: bool,
 }
 
-// The gathered bits with one more, at the place `k`.
-fn with_bit(bits: u16, level: bool, k: u8) -> u16
-    requires { k < 16 }
-    ensures { result ≡ with_bit bits level k }
-{
-    bits | (level as u16) << k
-}
-
-// The word of gathered bits.
-fn word_of(format: Format, bits: u16) -> u8
-    ensures { result ≡ word_of format bits }
-{
-    format.cut(bits >> 1)
-}
-
-// The parity bit of gathered bits, 0 where the format has none.
-fn parity_of(format: Format, bits: u16) -> u8
-    ensures { result ≡ parity_of format bits }
-{
-    match format.parity {
-        Some(_) => bit_at(bits, 1 + format.bits.count()),
-        None => 0,
+impl Gathering {
+    // Before the first bit.
+    fn new(format: Format) -> Gathering
+        ensures { result ≡ begun format }
+    {
+        Gathering {
+            format,
+            count: 0,
+            bits: 0,
+        }
     }
-}
 
-// What the gathered bits of a whole frame say.
-fn read_frame(format: Format, bits: u16, stop: bool) -> Received
-    ensures { result ≡ received format bits stop }
-{
-    let word = word_of(format, bits);
-    let parity = parity_of(format, bits);
-    Received {
-        word,
-        parity: parity == 1,
-        wrong: parity != format.check_bit(word),
-        stop,
-        low: bits == 0,
+    // With one bit more, at the place `k`.
+    fn with_bit(self, level: bool, k: u8) -> Gathering
+        requires { k < 16 }
+        ensures { result ≡ grown level k self }
+    {
+        Gathering {
+            bits: self.bits | (level as u16) << k,
+            ..self
+        }
+    }
+
+    fn word(self) -> u8
+        ensures { result ≡ word_of self.format self.bits }
+    {
+        self.format.cut(self.bits >> 1)
+    }
+
+    // The parity bit, 0 where the format has none.
+    fn parity(self) -> u8
+        ensures { result ≡ parity_of self.format self.bits }
+    {
+        match self.format.parity {
+            Some(_) => bit_at(self.bits, 1 + self.format.bits.count()),
+            None => 0,
+        }
+    }
+
+    // What all the bits of a frame say.
+    fn received(self, stop: bool) -> Received
+        ensures { result ≡ received self.format self.bits stop }
+    {
+        let word = self.word();
+        let parity = self.parity();
+        Received {
+            word,
+            parity: parity == 1,
+            wrong: parity != self.format.check_bit(word),
+            stop,
+            low: self.bits == 0,
+        }
     }
 }
 
 impl Receiver {
     // One count more of a frame under way.
-    fn gather(&mut self, format: Format, count: u8, bits: u16, level: bool) -> Option<Received>
-        ensures { (result, self.new) ≡ gathered format (count + 1) bits level }
+    fn gather(&mut self, frame: Gathering, level: bool) -> Option<Received>
+        ensures { (result, self.new) ≡ gathered frame.format (frame.count + 1) frame.bits level }
     {
-        let stop_at = format.stop_at();
-        if count as u16 + 1 < 16 * stop_at as u16 + 8 {
-            self.sample(format, count + 1, bits, level);
+        let stop_at = frame.format.stop_at();
+        if frame.count as u16 + 1 < 16 * stop_at as u16 + 8 {
+            self.sample(
+                Gathering {
+                    count: frame.count + 1,
+                    ..frame
+                },
+                level,
+            );
             None
         } else {
             *self = if level {
@@ -80,29 +105,21 @@ impl Receiver {
             } else {
                 Receiver::Waiting
             };
-            Some(read_frame(format, with_bit(bits, level, stop_at), level))
+            Some(frame.with_bit(level, stop_at).received(level))
         }
     }
 
     // A count before the first stop bit: in the middle of a bit its level is taken.
-    fn sample(&mut self, format: Format, count: u8, bits: u16, level: bool)
-        ensures { self.new ≡ counted format count bits level }
+    fn sample(&mut self, frame: Gathering, level: bool)
+        ensures { self.new ≡ counted frame.format frame.count frame.bits level }
     {
-        if count % 16 != 8 {
-            *self = Receiver::Gathering {
-                format,
-                count,
-                bits,
-            };
-        } else if count == 8 && level {
-            *self = Receiver::Hunting;
+        *self = if frame.count % 16 != 8 {
+            Receiver::Gathering(frame)
+        } else if frame.count == 8 && level {
+            Receiver::Hunting
         } else {
-            *self = Receiver::Gathering {
-                format,
-                count,
-                bits: with_bit(bits, level, count / 16),
-            };
-        }
+            Receiver::Gathering(frame.with_bit(level, frame.count / 16))
+        };
     }
 
     // One tick, with the format now set and the level of the line; answers the frame that ends here.
@@ -112,19 +129,11 @@ impl Receiver {
         match *self {
             Receiver::Hunting => {
                 if !level {
-                    *self = Receiver::Gathering {
-                        format,
-                        count: 0,
-                        bits: 0,
-                    };
+                    *self = Receiver::Gathering(Gathering::new(format));
                 }
                 None
             }
-            Receiver::Gathering {
-                format: own,
-                count,
-                bits,
-            } => self.gather(own, count, bits, level),
+            Receiver::Gathering(frame) => self.gather(frame, level),
             Receiver::Waiting => {
                 if level {
                     *self = Receiver::Hunting;

@@ -19,6 +19,14 @@ pub enum Transmitter {
     },
 }
 
+// What decides over a tick besides the transmitter's own state: the format now set, whether a break is wanted, and the level of CTS.
+#[derive(Clone, Copy)]
+pub struct Setting {
+    pub format: Format,
+    pub break_on: bool,
+    pub cts: bool,
+}
+
 // The level of a frame after that many ticks: 16 to a bit.
 fn level_at(frame: u16, count: u8) -> bool
     ensures { result ≡ bit frame (count / 16) }
@@ -41,22 +49,20 @@ impl Transmitter {
     pub fn is_resting(&self) -> bool
         ensures { result ≡ resting self.now }
     {
-        match *self {
-            Transmitter::Resting => true,
-            _ => false,
-        }
+        matches!(self, Transmitter::Resting)
     }
 
     // What comes after rest or a frame; true where it takes the word.
-    fn begin(&mut self, format: Format, break_on: bool, cts: bool, tdr: Option<u8>) -> bool
-        ensures { (result, self.new) ≡ begun format break_on cts tdr }
+    fn begin(&mut self, set: Setting, tdr: Option<u8>) -> bool
+        ensures { (result, self.new) ≡ begun set.format set.break_on set.cts tdr }
     {
-        if break_on {
+        let format = set.format;
+        if set.break_on {
             *self = Transmitter::Breaking { format, count: 0 };
             return false;
         }
         match tdr {
-            Some(word) if !cts => {
+            Some(word) if !set.cts => {
                 *self = Transmitter::Sending {
                     format,
                     frame: format.frame(word),
@@ -71,12 +77,12 @@ impl Transmitter {
         }
     }
 
-    // One tick, with the format now set, whether a break is wanted, the level of CTS, and the word that waits; true where it takes that word.
-    pub fn tick(&mut self, format: Format, break_on: bool, cts: bool, tdr: Option<u8>) -> bool
-        ensures { (result, self.new) ≡ ticked format break_on cts tdr self.old }
+    // One tick, with the word that waits; true where it takes that word.
+    pub fn tick(&mut self, set: Setting, tdr: Option<u8>) -> bool
+        ensures { (result, self.new) ≡ ticked set.format set.break_on set.cts tdr self.old }
     {
         match self {
-            Transmitter::Resting => self.begin(format, break_on, cts, tdr),
+            Transmitter::Resting => self.begin(set, tdr),
             Transmitter::Sending {
                 format: own,
                 count,
@@ -86,14 +92,14 @@ impl Transmitter {
                     *count += 1;
                     false
                 } else {
-                    self.begin(format, break_on, cts, tdr)
+                    self.begin(set, tdr)
                 }
             }
             Transmitter::Breaking { format: own, count } => {
                 let end = 16 * own.frame_bits();
                 if (*count as u16) + 1 < end as u16 {
                     *count += 1;
-                } else if break_on {
+                } else if set.break_on {
                     *count = end;
                 } else {
                     *self = Transmitter::Resting;

@@ -22,11 +22,10 @@ impl ModemLine {
 
 impl fmt::Display for ModemLine {
     fn fmt<W: fmt::Write>(&self, f: &mut fmt::Formatter<W>) -> fmt::Result {
-        let name = match *self {
+        f.write_str(match self {
             ModemLine::Cts => "CTS",
             ModemLine::Dcd => "DCD",
             ModemLine::Dsr => "DSR",
-        };
-        write!(f, "{name}")
+        })
     }
 }

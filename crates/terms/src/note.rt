@@ -4,9 +4,9 @@ ghost use Rattle.terms.specs.Note.{read_note_number, write_note_number};
 
 use std::fmt;
 
+// The note of a read of RDR.
 #[derive(Clone, Copy, PartialEq, Eq, Debug)]
 pub enum ReadNote {
-    Nothing = 0,
     Fresh = 1,
     Old = 2,
 }
@@ -21,18 +21,16 @@ impl ReadNote {
 
 impl fmt::Display for ReadNote {
     fn fmt<W: fmt::Write>(&self, f: &mut fmt::Formatter<W>) -> fmt::Result {
-        let name = match *self {
-            ReadNote::Nothing => "none",
+        f.write_str(match self {
             ReadNote::Fresh => "fresh",
             ReadNote::Old => "old",
-        };
-        write!(f, "{name}")
+        })
     }
 }
 
+// The note of a write to TDR.
 #[derive(Clone, Copy, PartialEq, Eq, Debug)]
 pub enum WriteNote {
-    Nothing = 0,
     Stored = 1,
     Replaced = 2,
 }
@@ -47,18 +45,16 @@ impl WriteNote {
 
 impl fmt::Display for WriteNote {
     fn fmt<W: fmt::Write>(&self, f: &mut fmt::Formatter<W>) -> fmt::Result {
-        let name = match *self {
-            WriteNote::Nothing => "none",
+        f.write_str(match self {
             WriteNote::Stored => "stored",
             WriteNote::Replaced => "replaced",
-        };
-        write!(f, "{name}")
+        })
     }
 }
 
-// What a read answers.
+// What a read answers; only a read of RDR has a note.
 #[derive(Clone, Copy, PartialEq, Eq, Debug)]
 pub struct Reading {
     pub byte: u8,
-    pub note: ReadNote,
+    pub note: Option<ReadNote>,
 }

@@ -2,17 +2,23 @@
 ghost use Rattle.std.specs.Prelude.{◌≡◌};
 ghost use Rattle.terms.specs.Refusal.{refusal_number};
 
-use std::error::Error;
-use std::fmt;
+use thiserror::Error;
 
-#[derive(Clone, Copy, PartialEq, Eq, Debug)]
+#[derive(Clone, Copy, PartialEq, Eq, Debug, Error)]
 pub enum Refusal {
+    #[error("refusal 1: there is no register above select 7")]
     NoSuchSelect = 1,
+    #[error("refusal 2: there is nothing to read at selects 2 and 6")]
     NothingToRead = 2,
+    #[error("refusal 3: a CR value has bit 7 clear and a rate code below 15")]
     BadControl = 3,
+    #[error("refusal 4: an FR value has bit 7 set")]
     BadFormat = 4,
+    #[error("refusal 5: a line holds a low level")]
     LineNotQuiet = 5,
+    #[error("refusal 6: a sweep has 1 to 2,048 cycles")]
     BadSweepLength = 6,
+    #[error("refusal 7: a sweep wants two records for each cycle")]
     TooFewRecords = 7,
 }
 
@@ -23,20 +29,3 @@ impl Refusal {
         self as u8
     }
 }
-
-impl fmt::Display for Refusal {
-    fn fmt<W: fmt::Write>(&self, f: &mut fmt::Formatter<W>) -> fmt::Result {
-        let cause = match *self {
-            Refusal::NoSuchSelect => "refusal 1: there is no register above select 7",
-            Refusal::NothingToRead => "refusal 2: there is nothing to read at selects 2 and 6",
-            Refusal::BadControl => "refusal 3: a CR value has bit 7 clear and a rate code below 15",
-            Refusal::BadFormat => "refusal 4: an FR value has bit 7 set",
-            Refusal::LineNotQuiet => "refusal 5: a line holds a low level",
-            Refusal::BadSweepLength => "refusal 6: a sweep has 1 to 2,048 cycles",
-            Refusal::TooFewRecords => "refusal 7: a sweep wants two records for each cycle",
-        };
-        write!(f, "{cause}")
-    }
-}
-
-impl Error for Refusal {}

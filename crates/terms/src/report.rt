@@ -1,4 +1,4 @@
-// What a channel reports of a cycle: how a frame ended in it, if one did.
+// What a channel reports of a cycle in which a frame ended: how it ended. Of any other cycle it reports none.
 ghost use Rattle.std.specs.Prelude.{◌≡◌};
 ghost use Rattle.terms.specs.Report.{report_number};
 
@@ -6,7 +6,6 @@ use std::fmt;
 
 #[derive(Clone, Copy, PartialEq, Eq, Debug)]
 pub enum ReportKind {
-    Nothing = 0,
     Break = 1,
     Passed = 2,
     Lost = 3,
@@ -23,18 +22,16 @@ impl ReportKind {
 
 impl fmt::Display for ReportKind {
     fn fmt<W: fmt::Write>(&self, f: &mut fmt::Formatter<W>) -> fmt::Result {
-        let name = match *self {
-            ReportKind::Nothing => "none",
+        f.write_str(match self {
             ReportKind::Break => "break",
             ReportKind::Passed => "passed",
             ReportKind::Lost => "lost",
             ReportKind::Kept => "kept",
-        };
-        write!(f, "{name}")
+        })
     }
 }
 
-// Passed, lost and kept carry the word, a break and none carry 0.
+// Passed, lost and kept carry the word, a break carries 0.
 #[derive(Clone, Copy, PartialEq, Eq, Debug)]
 pub struct Report {
     pub kind: ReportKind,

@@ -1,24 +1,32 @@
-use Rattle.std.proofs.Common.{◌≡◌, ℕ, subst, arith}
-use Rattle.board.specs.Board.{state}
-use Rattle.board.proofs.Sweeps.{Sweeping, sweeping_none, sweeping_again, sweeping_all}
+use Rattle.std.proofs.Common.{◌≡◌, ℕ, ◌+◌, ◌-◌, subst, arith}
+use Rattle.board.proofs.Sweeps.{Sweeping, sweeping_none, sweeping_next, sweeping_all}
 use Rattle.board.proofs.board.Board.run_cycles.Goals as goal
 
-pub loop-i-init : goal.loop-i-init
-loop-i-init g c = sweeping_none _ _
+pub loop-cycle-init : goal.loop-cycle-init
+loop-cycle-init g c = (omega arith, sweeping_none _ _)
 
-pub loop-i-preserved : goal.loop-i-preserved
-loop-i-preserved g c =
-    let f = g.A.Line.levels in
-    let h = g.B.Line.levels in
+pub loop-cycle-preserved : goal.loop-cycle-preserved
+loop-cycle-preserved g c =
+    let l = c.loop-cycle in
     let r = c.record_cycle-written in
-    sweeping_again c.loop-i.i (state f h c.args.self.now) c.args.records.now (state f h c.loop-i.self) c.loop-i.records c.loop-i.written
-    c.loop-i.invariant (omega arith) _ r.new.records r.result r.ensures.leaves r.ensures.counts r.ensures.writes
+    let next = sweeping_next l.cycle c.args.self.now c.args.records.now l.self l.records l.written (omega arith) l.invariant.1 (omega arith)
+    _ r.new.records r.result r.ensures.leaves r.ensures.counts r.ensures.writes in
+    let same : l.cycle ≡ l.cycle + 1 - 1 = omega arith in
+    (omega arith, subst (λ (m : ℕ). Sweeping m c.args.self.now c.args.records.now r.new.self r.new.records r.result) same next)
 
 pub returns : goal.returns
 returns g c =
-    let f = g.A.Line.levels in
-    let h = g.B.Line.levels in
-    let s = state f h c.args.self.now in
-    let end : c.loop-i.i ≡ c.args.k = omega arith in
-    let done = subst (λ (k : ℕ). Sweeping k s c.args.records.now (state f h c.loop-i.self) c.loop-i.records c.loop-i.written) end c.loop-i.invariant in
-    record { writes = sweeping_all c.args.k s c.args.records.now _ c.loop-i.records c.loop-i.written done; leaves = done.moved }
+    let l = c.loop-cycle in
+    let all : l.cycle - 1 ≡ c.args.k = omega arith in
+    let done = subst (λ (m : ℕ). Sweeping m c.args.self.now c.args.records.now l.self l.records l.written) all l.invariant.1 in
+    record { writes = sweeping_all _ _ _ _ _ _ done; leaves = done.moved }
+
+pub returns-2 : goal.returns-2
+returns-2 g c =
+    let l = c.loop-cycle in
+    let r = c.record_cycle-written in
+    let next = sweeping_next l.cycle c.args.self.now c.args.records.now l.self l.records l.written (omega arith) l.invariant.1 (omega arith)
+    _ r.new.records r.result r.ensures.leaves r.ensures.counts r.ensures.writes in
+    let all : l.cycle ≡ c.args.k = omega arith in
+    let done = subst (λ (m : ℕ). Sweeping m c.args.self.now c.args.records.now r.new.self r.new.records r.result) all next in
+    record { writes = sweeping_all _ _ _ _ _ _ done; leaves = done.moved }

@@ -1,12 +1,11 @@
-use Rattle.std.proofs.Common.{◌%◌, false, arith}
-use Rattle.line.proofs.Levels.{scan_more, scan_low, scan_all}
+use Rattle.std.proofs.Common.{◌%◌, sym, ◌∙◌, rules, tests}
+use Rattle.std.proofs.lemmas.Iterator.{YieldsList-from_slice}
+use Rattle.std.proofs.lemmas.Iterator.Search.{all_from_yields_List}
+use Rattle.line.proofs.Levels.{all_high_rotate}
 use Rattle.line.proofs.table_line.TableLineLine.is_quiet.Goals as goal
 
-pub returns-then-not-level : goal.returns-then-not-level
-returns-then-not-level c = scan_low (c.args.self.now.head % 64) c.args.self.now.table c.loop-level.level-index false (omega arith) c.if-not-level.true
-
-pub loop-level-preserved : goal.loop-level-preserved
-loop-level-preserved c = scan_more c.args.self.now.table c.loop-level.level-index false (omega arith) c.loop-level.invariant c.if-not-level.false
-
 pub returns : goal.returns
-returns c = scan_all (c.args.self.now.head % 64) c.args.self.now.table c.loop-level.level-index (omega arith) c.loop-level.invariant
+returns c =
+    let t = c.args.self.now in
+    all_from_yields_List (λ l. l) _ _ c.all.result c.all.ensures.ran (YieldsList-from_slice t.table cc) (λ x b q k. search (rules, tests))
+    ∙ sym (all_high_rotate (t.head % 64) t.table)
