@@ -1,13 +1,13 @@
 -- What a direction counts; a count stops at the greatest number of its type.
-use Rattle.std.specs.Prelude.{ℕ, ◌+◌, ◌-◌, ◌^◌, min, Bool, cond, List, ◌++◌}
+use Rattle.std.specs.Prelude.{ℕ, ◌+◌, ◌-◌, ◌^◌, min, Bool, cond, List, ◌++◌, Some, None, Option}
 use Rattle.std.proofs.Math.Utf8.{encode}
 use Rattle.terms.specs.declared.channel_id.ChannelId.{ChannelId}
 use Rattle.terms.specs.declared.note.ReadNote.{ReadNote}
-use Rattle.terms.specs.declared.note.ReadNote.TheVariants.{Nothing as Unnoted, Fresh, Old}
+use Rattle.terms.specs.declared.note.ReadNote.TheVariants.{Fresh, Old}
 use Rattle.terms.specs.declared.note.WriteNote.{WriteNote}
-use Rattle.terms.specs.declared.note.WriteNote.TheVariants.{Nothing as Unmarked, Stored, Replaced}
+use Rattle.terms.specs.declared.note.WriteNote.TheVariants.{Stored, Replaced}
 use Rattle.terms.specs.declared.report.ReportKind.{ReportKind}
-use Rattle.terms.specs.declared.report.ReportKind.TheVariants.{Nothing, Break, Passed, Lost, Kept}
+use Rattle.terms.specs.declared.report.ReportKind.TheVariants.{Break, Passed, Lost, Kept}
 use Rattle.dacia.specs.Separation.{same}
 use Rattle.loopback.specs.declared.tally.Counts.{Counts}
 
@@ -19,13 +19,12 @@ abbrev pub no_counts : Counts
 no_counts = record { written = 0; replaced = 0; kept = 0; lost = 0; read = 0 }
 
 -- only a write to TDR has a note
-abbrev pub write_counted : WriteNote → Counts → Counts
-write_counted Unmarked c = c
-write_counted Stored c = record { written = more c.written; replaced = c.replaced; kept = c.kept; lost = c.lost; read = c.read }
-write_counted Replaced c = record { written = more c.written; replaced = more c.replaced; kept = c.kept; lost = c.lost; read = c.read }
+abbrev pub write_counted : Option WriteNote → Counts → Counts
+write_counted None c = c
+write_counted (Some Stored) c = record { written = more c.written; replaced = c.replaced; kept = c.kept; lost = c.lost; read = c.read }
+write_counted (Some Replaced) c = record { written = more c.written; replaced = more c.replaced; kept = c.kept; lost = c.lost; read = c.read }
 
 abbrev pub report_counted : ReportKind → Counts → Counts
-report_counted Nothing c = c
 report_counted Break c = c
 report_counted Passed c = c
 report_counted Lost c = record { written = c.written; replaced = c.replaced; kept = c.kept; lost = more c.lost; read = c.read }
@@ -36,13 +35,13 @@ abbrev pub report_to : ChannelId → ChannelId → ReportKind → Counts → Cou
 report_to to ch k c = cond (same to ch) (report_counted k c) c
 
 -- only a read of a full RDR is fresh
-abbrev pub read_counted : ReadNote → Counts → Counts
-read_counted Unnoted c = c
-read_counted Fresh c = record { written = c.written; replaced = c.replaced; kept = c.kept; lost = c.lost; read = more c.read }
-read_counted Old c = c
+abbrev pub read_counted : Option ReadNote → Counts → Counts
+read_counted None c = c
+read_counted (Some Fresh) c = record { written = c.written; replaced = c.replaced; kept = c.kept; lost = c.lost; read = more c.read }
+read_counted (Some Old) c = c
 
 -- the text of the words read, where there was memory for one more
-abbrev pub read_text : ReadNote → ℕ → Bool → List ℕ → List ℕ
-read_text Unnoted w stored t = t
-read_text Fresh w stored t = cond stored (t ++ encode w) t
-read_text Old w stored t = t
+abbrev pub read_text : Option ReadNote → ℕ → Bool → List ℕ → List ℕ
+read_text None w stored t = t
+read_text (Some Fresh) w stored t = cond stored (t ++ encode w) t
+read_text (Some Old) w stored t = t

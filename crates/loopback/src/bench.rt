@@ -4,7 +4,7 @@ ghost use Rattle.dacia.specs.Separation.{answer_of};
 ghost use Rattle.terms.specs.declared.channel_id.ChannelId.TheVariants.{One, Two};
 ghost use Rattle.loopback.specs.Tally.{report_to};
 
-use crate::names::{Level, Name, Shown, Word};
+use crate::names::{Level, Name, Note, Shown, Word};
 use crate::tally::Tally;
 use anyhow::anyhow;
 use board::board::Board;
@@ -29,7 +29,7 @@ const ROOM: usize = 4096;
 const BLANK: Record = Record {
     cycle: 0,
     channel: ChannelId::One,
-    kind: ReportKind::Nothing,
+    kind: ReportKind::Break,
     word: 0,
 };
 
@@ -60,6 +60,12 @@ struct Irqs {
 pub(crate) struct Bench {
     board: Board<Joint<TableLine, TableLine>, Wire>,
     records: Vec<Record>,
+    log: Log,
+}
+
+// What was told so far: the cycle that is reached, and what became of the words.
+#[derive(Drop)]
+struct Log {
     cycle: u32,
     irqs: Irqs,
     // the words from channel 1 to channel 2, and those from 2 to 1
@@ -74,13 +80,15 @@ impl Bench {
         Ok(Bench {
             board: Board::new(line_a, Wire),
             records: vec![in rt.alloc(); BLANK; ROOM]?,
-            cycle: 0,
-            irqs: Irqs {
-                one: true,
-                two: true,
+            log: Log {
+                cycle: 0,
+                irqs: Irqs {
+                    one: true,
+                    two: true,
+                },
+                there: Tally::new(rt.alloc()),
+                back: Tally::new(rt.alloc()),
             },
-            there: Tally::new(rt.alloc()),
-            back: Tally::new(rt.alloc()),
         })
     }
 
@@ -108,7 +116,7 @@ impl Bench {
     }
 
     fn set_up(&mut self, rt: &HostRuntime, cr: u8, fr: u8) -> io::Result<()> {
-        let cycle = self.cycle;
+        let cycle = self.log.cycle;
         match self.board.set_up(cr, fr) {
             Ok(()) => println!(rt;
                 "{cycle:>5}  set up with CR ${cr:02X} and FR ${fr:02X}: a reset chip has them in both channels, and both RDRs are read"
@@ -127,36 +135,41 @@ impl Bench {
         byte: u8,
         why: &str,
     ) -> anyhow::Result<()> {
-        let cycle = self.cycle;
-        let number = channel.number();
         let note = self.board.write(name.select(channel), byte)?;
         match channel {
-            ChannelId::One => self.there.count_write(note),
-            ChannelId::Two => self.back.count_write(note),
+            ChannelId::One => self.log.there.count_write(note),
+            ChannelId::Two => self.log.back.count_write(note),
         }
-        let word = Word(byte);
-        println!(rt; "{cycle:>5}  write {name}{number} {word}, note {note}: {why}")?;
+        println!(rt;
+            "{:>5}  write {name}{} {}, note {}: {why}",
+            self.log.cycle,
+            channel.number(),
+            Word(byte),
+            Note(note)
+        )?;
         Ok(())
     }
 
     fn read(&mut self, rt: &HostRuntime, channel: ChannelId, name: Name) -> anyhow::Result<()> {
-        let cycle = self.cycle;
-        let number = channel.number();
         let reading = self.board.read(name.select(channel))?;
         match channel {
-            ChannelId::One => self.back.count_read(reading)?,
-            ChannelId::Two => self.there.count_read(reading)?,
+            ChannelId::One => self.log.back.count_read(reading)?,
+            ChannelId::Two => self.log.there.count_read(reading)?,
         }
-        let note = reading.note;
         let byte = reading.byte;
-        let shown = Shown { name, byte };
-        println!(rt; "{cycle:>5}  read {name}{number}: {shown}, note {note}")?;
+        println!(rt;
+            "{:>5}  read {name}{}: {}, note {}",
+            self.log.cycle,
+            channel.number(),
+            Shown { name, byte },
+            Note(reading.note)
+        )?;
         Ok(())
     }
 
     // A read in its two steps: it is opened, and works when it is ended.
     fn read_at(&mut self, rt: &HostRuntime, select: u8) -> io::Result<()> {
-        let cycle = self.cycle;
+        let cycle = self.log.cycle;
         let access = match ReadAccess::open(select) {
             Ok(access) => access,
             Err(refusal) => {
@@ -165,13 +178,13 @@ impl Bench {
         };
         match self.board.end_read(access) {
             Ok(reading) => {
-                let note = reading.note;
                 let name = Name::read_at(select);
-                let number = select / 4 + 1;
                 let byte = reading.byte;
-                let shown = Shown { name, byte };
                 println!(rt;
-                    "{cycle:>5}  open and end a read at select {select}, {name}{number}: {shown}, note {note}"
+                    "{cycle:>5}  open and end a read at select {select}, {name}{}: {}, note {}",
+                    select / 4 + 1,
+                    Shown { name, byte },
+                    Note(reading.note)
                 )
             }
             Err(refusal) => {
@@ -187,70 +200,29 @@ impl Bench {
         line: ModemLine,
         level: bool,
     ) -> io::Result<()> {
-        let cycle = self.cycle;
-        let number = channel.number();
         self.board.set_modem(channel, line, level);
-        let level = Level(level);
-        println!(rt; "{cycle:>5}  {line}{number} goes {level}")
-    }
-
-    fn tell_irq(&self, rt: &HostRuntime, number: u8, before: bool, after: bool) -> io::Result<()> {
-        let cycle = self.cycle;
-        if before == after {
-            return Ok(());
-        }
-        let level = Level(after);
-        let why = if after {
-            "no request is left"
-        } else {
-            "there is a request"
-        };
-        println!(rt; "{cycle:>5}  IRQ{number} goes {level}: {why}")
+        println!(rt;
+            "{:>5}  {line}{} goes {}",
+            self.log.cycle,
+            channel.number(),
+            Level(level)
+        )
     }
 
     // A line for each IRQ that is not as it was told last.
     fn tell_irqs(&mut self, rt: &HostRuntime) -> io::Result<()> {
-        let before = self.irqs;
-        let one = self.board.irq(ChannelId::One);
-        let two = self.board.irq(ChannelId::Two);
-        self.irqs = Irqs { one, two };
-        self.tell_irq(rt, 1, before.one, one)?;
-        self.tell_irq(rt, 2, before.two, two)
-    }
-
-    // A report of channel 2 is of a word from channel 1, and the other way round.
-    fn count_report(&mut self, channel: ChannelId, kind: ReportKind)
-        ensures there { self.new.there.counts ≡ report_to Two channel kind self.old.there.counts }
-        ensures back { self.new.back.counts ≡ report_to One channel kind self.old.back.counts }
-    {
-        match channel {
-            ChannelId::One => self.back.count_report(kind),
-            ChannelId::Two => self.there.count_report(kind),
-        }
-    }
-
-    fn tell_report(
-        &mut self,
-        rt: &HostRuntime,
-        channel: ChannelId,
-        report: Report,
-    ) -> io::Result<()> {
-        let cycle = self.cycle;
-        let number = channel.number();
-        let kind = report.kind;
-        let word = Word(report.word);
-        if kind == ReportKind::Nothing {
-            return Ok(());
-        }
-        self.count_report(channel, kind);
-        println!(rt; "{cycle:>5}  channel {number} reports {kind} {word}")
+        let irqs = Irqs {
+            one: self.board.irq(ChannelId::One),
+            two: self.board.irq(ChannelId::Two),
+        };
+        self.log.tell_irqs(rt, irqs)
     }
 
     fn cycle(&mut self, rt: &HostRuntime) -> io::Result<ChipAnswer> {
         let answer = self.board.cycle();
-        self.cycle = self.cycle.saturating_add(1);
-        self.tell_report(rt, ChannelId::One, answer.one.report)?;
-        self.tell_report(rt, ChannelId::Two, answer.two.report)?;
+        self.log.cycle = self.log.cycle.saturating_add(1);
+        self.log.tell_report(rt, ChannelId::One, answer.one.report)?;
+        self.log.tell_report(rt, ChannelId::Two, answer.two.report)?;
         self.tell_irqs(rt)?;
         Ok(answer)
     }
@@ -260,15 +232,14 @@ impl Bench {
         for _ in 0..cycles {
             self.cycle(rt)?;
         }
-        let cycle = self.cycle;
-        println!(rt; "{cycle:>5}  {cycles} cycles are over: {why}")
+        println!(rt; "{:>5}  {cycles} cycles are over: {why}", self.log.cycle)
     }
 
     // Cycles until a channel reports something.
     fn run_to_report(&mut self, rt: &HostRuntime, channel: ChannelId) -> anyhow::Result<()> {
         for _ in 0..PATIENCE {
             let answer = self.cycle(rt)?;
-            if of(channel, answer).report.kind != ReportKind::Nothing {
+            if of(channel, answer).report.is_some() {
                 return Ok(());
             }
         }
@@ -286,51 +257,108 @@ impl Bench {
         Err(anyhow!("no request came in time"))
     }
 
+    // A sweep: what it has written, and how far the board is then.
     fn sweep(&mut self, rt: &HostRuntime, cycles: u16, room: usize) -> anyhow::Result<()> {
-        let cycle = self.cycle;
+        let begun = self.log.cycle;
         let Some(records) = self.records.as_mut_slice().get_mut(0..room) else {
             return Err(anyhow!("the bench has no room for that sweep"));
         };
-        match self.board.sweep(cycles, records) {
-            Ok(written) => self.tell_sweep(rt, cycles, written)?,
-            Err(refusal) => println!(rt;
-                "{cycle:>5}  a sweep of {cycles} cycles with {room} records: {refusal}"
-            )?,
+        let written = match self.board.sweep(cycles, records) {
+            Ok(written) => written,
+            Err(refusal) => {
+                println!(rt;
+                    "{begun:>5}  a sweep of {cycles} cycles with {room} records: {refusal}"
+                )?;
+                return Ok(());
+            }
+        };
+        println!(rt; "{begun:>5}  a sweep of {cycles} cycles begins")?;
+        for record in self.records.iter().take(written) {
+            self.log.tell_record(rt, *record)?;
         }
+        self.log.cycle = begun.saturating_add(u32::from(cycles));
+        println!(rt;
+            "{:>5}  the sweep is over: {written} records were written",
+            self.log.cycle
+        )?;
         Ok(())
     }
 
-    // What a sweep has written, and how far the board is now.
-    fn tell_sweep(&mut self, rt: &HostRuntime, cycles: u16, written: usize) -> io::Result<()> {
-        let begun = self.cycle;
-        println!(rt; "{begun:>5}  a sweep of {cycles} cycles begins")?;
-        for place in 0..written {
-            if let Some(record) = self.records.get(place).copied() {
-                self.tell_record(rt, begun, record)?;
-            }
-        }
-        self.cycle = begun.saturating_add(u32::from(cycles));
-        let cycle = self.cycle;
-        println!(rt; "{cycle:>5}  the sweep is over: {written} records were written")
+    pub(crate) fn summary(&self, rt: &HostRuntime) -> io::Result<()> {
+        println!(rt; "After {} cycles:", self.log.cycle)?;
+        self.log.there.tell(rt, ChannelId::One, ChannelId::Two)?;
+        self.log.back.tell(rt, ChannelId::Two, ChannelId::One)
+    }
+}
+
+impl Log {
+    fn tell_irqs(&mut self, rt: &HostRuntime, irqs: Irqs) -> io::Result<()> {
+        let before = self.irqs;
+        self.irqs = irqs;
+        self.tell_irq(rt, 1, before.one, irqs.one)?;
+        self.tell_irq(rt, 2, before.two, irqs.two)
     }
 
-    fn tell_record(&mut self, rt: &HostRuntime, begun: u32, record: Record) -> io::Result<()> {
-        let within = record.cycle;
-        let cycle = begun.saturating_add(u32::from(within));
-        let number = record.channel.number();
-        let kind = record.kind;
-        let word = Word(record.word);
-        self.count_report(record.channel, kind);
+    fn tell_irq(&self, rt: &HostRuntime, number: u8, before: bool, after: bool) -> io::Result<()> {
+        if before == after {
+            return Ok(());
+        }
+        let why = if after {
+            "no request is left"
+        } else {
+            "there is a request"
+        };
         println!(rt;
-            "{cycle:>5}  cycle {within} of the sweep: channel {number} reports {kind} {word}"
+            "{:>5}  IRQ{number} goes {}: {why}",
+            self.cycle,
+            Level(after)
         )
     }
 
-    pub(crate) fn summary(&self, rt: &HostRuntime) -> io::Result<()> {
-        let cycle = self.cycle;
-        println!(rt; "After {cycle} cycles:")?;
-        self.there.tell(rt, ChannelId::One, ChannelId::Two)?;
-        self.back.tell(rt, ChannelId::Two, ChannelId::One)
+    // A report of channel 2 is of a word from channel 1, and the other way round.
+    fn count_report(&mut self, channel: ChannelId, kind: ReportKind)
+        ensures there { self.new.there.counts ≡ report_to Two channel kind self.old.there.counts }
+        ensures back { self.new.back.counts ≡ report_to One channel kind self.old.back.counts }
+    {
+        match channel {
+            ChannelId::One => self.back.count_report(kind),
+            ChannelId::Two => self.there.count_report(kind),
+        }
+    }
+
+    fn tell_report(
+        &mut self,
+        rt: &HostRuntime,
+        channel: ChannelId,
+        report: Option<Report>,
+    ) -> io::Result<()> {
+        let Some(Report { kind, word }) = report else {
+            return Ok(());
+        };
+        self.count_report(channel, kind);
+        println!(rt;
+            "{:>5}  channel {} reports {kind} {}",
+            self.cycle,
+            channel.number(),
+            Word(word)
+        )
+    }
+
+    // A record of a sweep that began in the cycle that is reached.
+    fn tell_record(&mut self, rt: &HostRuntime, record: Record) -> io::Result<()> {
+        let Record {
+            cycle,
+            channel,
+            kind,
+            word,
+        } = record;
+        self.count_report(channel, kind);
+        println!(rt;
+            "{:>5}  cycle {cycle} of the sweep: channel {} reports {kind} {}",
+            self.cycle.saturating_add(u32::from(cycle)),
+            channel.number(),
+            Word(word)
+        )
     }
 }
 

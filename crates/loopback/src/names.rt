@@ -3,6 +3,7 @@ ghost use Rattle.std.specs.Prelude.{◌≡◌};
 ghost use Rattle.dacia.specs.Access.{select_at};
 ghost use Rattle.loopback.specs.Names.{address_of, read_name};
 
+use dacia::access::Place;
 use std::fmt;
 use terms::channel_id::ChannelId;
 use terms::register::Register;
@@ -45,17 +46,14 @@ impl Name {
     pub(crate) fn select(self, channel: ChannelId) -> u8
         ensures { result ≡ select_at channel (address_of self) }
     {
-        let base = match channel {
-            ChannelId::One => 0,
-            ChannelId::Two => 4,
-        };
-        base | self.register().number()
+        let register = self.register();
+        Place { channel, register }.select()
     }
 }
 
 impl fmt::Display for Name {
     fn fmt<W: fmt::Write>(&self, f: &mut fmt::Formatter<W>) -> fmt::Result {
-        let name = match *self {
+        f.write_str(match self {
             Name::Isr => "ISR",
             Name::Ier => "IER",
             Name::Csr => "CSR",
@@ -63,8 +61,20 @@ impl fmt::Display for Name {
             Name::Fr => "FR",
             Name::Rdr => "RDR",
             Name::Tdr => "TDR",
-        };
-        write!(f, "{name}")
+        })
+    }
+}
+
+// A note, which an access can be without.
+#[derive(Clone, Copy)]
+pub(crate) struct Note<T>(pub(crate) Option<T>);
+
+impl<T: fmt::Display> fmt::Display for Note<T> {
+    fn fmt<W: fmt::Write>(&self, f: &mut fmt::Formatter<W>) -> fmt::Result {
+        match &self.0 {
+            Some(note) => write!(f, "{note}"),
+            None => f.write_str("none"),
+        }
     }
 }
 
@@ -84,12 +94,28 @@ impl fmt::Display for Word {
     }
 }
 
-// The bits of ISR and CSR, bit 7 first.
-const ISR_BITS: [&str; 8] = [
-    "any", "TDRE", "CTST", "DCDT", "DSRT", "PAR", "F/O/B", "RDRF",
+// The bits of ISR and CSR by their weights.
+const ISR_BITS: [(u8, &str); 8] = [
+    (0x80, "any"),
+    (0x40, "TDRE"),
+    (0x20, "CTST"),
+    (0x10, "DCDT"),
+    (0x08, "DSRT"),
+    (0x04, "PAR"),
+    (0x02, "F/O/B"),
+    (0x01, "RDRF"),
 ];
 
-const CSR_BITS: [&str; 8] = ["FE", "TUR", "CTS", "DCD", "DSR", "BRK", "DTR", "RTS"];
+const CSR_BITS: [(u8, &str); 8] = [
+    (0x80, "FE"),
+    (0x40, "TUR"),
+    (0x20, "CTS"),
+    (0x10, "DCD"),
+    (0x08, "DSR"),
+    (0x04, "BRK"),
+    (0x02, "DTR"),
+    (0x01, "RTS"),
+];
 
 // What was read of a register: a status byte with the names of its set bits, and any other byte as a word.
 #[derive(Clone, Copy)]
@@ -98,14 +124,16 @@ pub(crate) struct Shown {
     pub(crate) byte: u8,
 }
 
-fn write_bits<W: fmt::Write>(f: &mut fmt::Formatter<W>, byte: u8, names: [&str; 8]) -> fmt::Result {
+fn write_bits<W: fmt::Write>(
+    f: &mut fmt::Formatter<W>,
+    byte: u8,
+    names: [(u8, &str); 8],
+) -> fmt::Result {
     write!(f, "${byte:02X}")?;
-    let mut rest = byte;
-    for name in names {
-        if rest >= 128 {
+    for (weight, name) in names {
+        if byte & weight != 0 {
             write!(f, " {name}")?;
         }
-        rest = rest % 128 * 2;
     }
     Ok(())
 }
@@ -115,10 +143,7 @@ impl fmt::Display for Shown {
         match self.name {
             Name::Isr => write_bits(f, self.byte, ISR_BITS),
             Name::Csr => write_bits(f, self.byte, CSR_BITS),
-            _ => {
-                let word = Word(self.byte);
-                write!(f, "{word}")
-            }
+            _ => write!(f, "{}", Word(self.byte)),
         }
     }
 }
@@ -129,7 +154,6 @@ pub(crate) struct Level(pub(crate) bool);
 
 impl fmt::Display for Level {
     fn fmt<W: fmt::Write>(&self, f: &mut fmt::Formatter<W>) -> fmt::Result {
-        let name = if self.0 { "high" } else { "low" };
-        write!(f, "{name}")
+        f.write_str(if self.0 { "high" } else { "low" })
     }
 }

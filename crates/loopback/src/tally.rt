@@ -42,14 +42,14 @@ impl Tally {
     }
 
     // Only a write to TDR has a note.
-    pub(crate) fn count_write(&mut self, note: WriteNote)
+    pub(crate) fn count_write(&mut self, note: Option<WriteNote>)
         ensures counts { self.new.counts ≡ write_counted note self.old.counts }
         ensures text { string_bytes self.new.text ≡ string_bytes self.old.text }
     {
         match note {
-            WriteNote::Nothing => {}
-            WriteNote::Stored => self.counts.written = self.counts.written.saturating_add(1),
-            WriteNote::Replaced => {
+            None => {}
+            Some(WriteNote::Stored) => self.counts.written = self.counts.written.saturating_add(1),
+            Some(WriteNote::Replaced) => {
                 self.counts.written = self.counts.written.saturating_add(1);
                 self.counts.replaced = self.counts.replaced.saturating_add(1);
             }
@@ -72,7 +72,7 @@ impl Tally {
         ensures counts { self.new.counts ≡ read_counted reading.note self.old.counts }
         ensures text { string_bytes self.new.text ≡ read_text reading.note reading.byte (is_ok result) (string_bytes self.old.text) }
     {
-        if let ReadNote::Fresh = reading.note {
+        if let Some(ReadNote::Fresh) = reading.note {
             self.counts.read = self.counts.read.saturating_add(1);
             self.text.push(char::from(reading.byte))?;
         }
@@ -80,16 +80,18 @@ impl Tally {
     }
 
     pub(crate) fn tell(&self, rt: &HostRuntime, from: ChannelId, to: ChannelId) -> io::Result<()> {
-        let from = from.number();
-        let to = to.number();
-        let written = self.counts.written;
-        let replaced = self.counts.replaced;
-        let kept = self.counts.kept;
-        let lost = self.counts.lost;
-        let read = self.counts.read;
-        let text = self.text.as_str();
+        let Counts {
+            written,
+            replaced,
+            kept,
+            lost,
+            read,
+        } = self.counts;
         println!(rt;
-            "From {from} to {to}: {written} words written, {replaced} replaced, {kept} kept, {lost} lost, {read} read: \"{text}\"."
+            "From {} to {}: {written} words written, {replaced} replaced, {kept} kept, {lost} lost, {read} read: \"{}\".",
+            from.number(),
+            to.number(),
+            self.text.as_str()
         )
     }
 }
