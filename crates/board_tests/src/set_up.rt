@@ -8,26 +8,32 @@ use std::test::Fail;
 use terms::note::{ReadNote, Reading};
 use terms::refusal::Refusal;
 
-// What set-up answers, by the number of the refusal, or 0.
-fn number(answer: Result<(), Refusal>) -> u8 {
-    match answer {
-        Ok(()) => 0,
-        Err(refusal) => refusal.number(),
-    }
-}
-
-// The smallest number that applies.
-fn due(cr: u8, fr: u8, quiet: bool) -> u8 {
+// The refusal with the smallest number that applies.
+fn due(cr: u8, fr: u8, quiet: bool) -> Result<(), Refusal> {
     if cr >= 128 || cr % 16 == 15 {
-        return 3;
+        return Err(Refusal::BadControl);
     }
     if fr < 128 {
-        return 4;
+        return Err(Refusal::BadFormat);
     }
-    if quiet { 0 } else { 5 }
+    if quiet {
+        Ok(())
+    } else {
+        Err(Refusal::LineNotQuiet)
+    }
 }
 
-fn reading(byte: u8, note: ReadNote) -> Reading {
+#[test]
+fn refusals_have_numbers(rt: HostRuntime) -> Result<(), Fail> {
+    assert_eq!(rt; Refusal::BadControl.number(), 3);
+    assert_eq!(rt; Refusal::BadFormat.number(), 4);
+    assert_eq!(rt; Refusal::LineNotQuiet.number(), 5);
+    assert_eq!(rt; Refusal::BadSweepLength.number(), 6);
+    assert_eq!(rt; Refusal::TooFewRecords.number(), 7);
+    Ok(())
+}
+
+fn reading(byte: u8, note: Option<ReadNote>) -> Reading {
     Reading { byte, note }
 }
 
@@ -38,10 +44,10 @@ fn shows_set_up(
     base: u8,
     fr: u8,
 ) -> Result<(), Fail> {
-    assert_eq!(rt; board.read(base)?, reading(0xc0, ReadNote::Nothing));
+    assert_eq!(rt; board.read(base)?, reading(0xc0, None));
     let csr = 0x40 | (fr & 0x03);
-    assert_eq!(rt; board.read(base | 1)?, reading(csr, ReadNote::Nothing));
-    assert_eq!(rt; board.read(base | 3)?, reading(0x00, ReadNote::Old));
+    assert_eq!(rt; board.read(base | 1)?, reading(csr, None));
+    assert_eq!(rt; board.read(base | 3)?, reading(0x00, Some(ReadNote::Old)));
     Ok(())
 }
 
@@ -50,9 +56,9 @@ fn every_pair_of_values_is_accepted_or_refused_by_its_number(rt: HostRuntime) ->
     for cr in 0..=255u8 {
         for fr in 0..=255u8 {
             let mut board = Board::new(Wire, Wire);
-            let answer = number(board.set_up(cr, fr));
+            let answer = board.set_up(cr, fr);
             assert_eq!(rt; answer, due(cr, fr, true), "CR {cr} FR {fr}");
-            if answer == 0 {
+            if answer.is_ok() {
                 shows_set_up(&rt, &mut board, 0, fr)?;
                 shows_set_up(&rt, &mut board, 4, fr)?;
             }
@@ -78,8 +84,7 @@ fn a_line_that_is_not_quiet_is_refused_by_5_after_3_and_4(rt: HostRuntime) -> Re
     let mut board = busy()?;
     for cr in 0..=255u8 {
         for fr in 0..=255u8 {
-            let answer = number(board.set_up(cr, fr));
-            assert_eq!(rt; answer, due(cr, fr, false), "CR {cr} FR {fr}");
+            assert_eq!(rt; board.set_up(cr, fr), due(cr, fr, false), "CR {cr} FR {fr}");
         }
     }
     alike(&rt, &mut board, &mut busy()?, 3000)

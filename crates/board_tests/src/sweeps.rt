@@ -32,17 +32,10 @@ fn sending() -> Result<Board<TableLine, Wire>, Refusal> {
     Ok(board)
 }
 
-fn is_record(rt: &impl Abort, record: Record, due: Record) {
-    assert_eq!(rt; record.cycle, due.cycle);
-    assert_eq!(rt; record.channel, due.channel);
-    assert_eq!(rt; record.kind, due.kind);
-    assert_eq!(rt; record.word, due.word);
-}
-
 // The records from a place on are as they were.
 fn untouched_from(rt: &impl Abort, records: &[Record], from: usize) {
     for record in records.iter().skip(from) {
-        is_record(rt, *record, UNTOUCHED);
+        assert_eq!(rt; *record, UNTOUCHED);
     }
 }
 
@@ -131,8 +124,8 @@ fn a_sweep_of_2048_writes_what_the_channels_report(rt: HostRuntime) -> Result<()
         kind: ReportKind::Kept,
         word: 0x41,
     };
-    is_record(&rt, records[0], over_b);
-    is_record(&rt, records[1], over_a);
+    assert_eq!(rt; records[0], over_b);
+    assert_eq!(rt; records[1], over_a);
     untouched_from(&rt, records.as_slice(), 2);
     Ok(())
 }

@@ -65,8 +65,7 @@ struct Format {
 
 fn format_of(size: Size, parity: u8, control: (u8, u8)) -> Format {
     let (cr, stops) = control;
-    let checks = if parity == 0 { 0 } else { 1 };
-    let bits = 1 + u16::from(size.bits) + checks + u16::from(stops);
+    let bits = 1 + u16::from(size.bits) + u16::from(parity != 0) + u16::from(stops);
     Format {
         cr,
         fr: size.fr | parity,
@@ -85,12 +84,12 @@ fn send<A: Line, B: Line>(
     let Format { cr, fr, .. } = format;
     assert_eq!(rt;
         board.write(3, word)?,
-        WriteNote::Stored,
+        Some(WriteNote::Stored),
         "CR {cr} FR {fr} frame {word}"
     );
     assert_eq!(rt;
         board.write(7, 255 - word)?,
-        WriteNote::Stored,
+        Some(WriteNote::Stored),
         "CR {cr} FR {fr} frame {word}"
     );
     Ok(())
@@ -102,12 +101,12 @@ fn hear<A: Line, B: Line>(
     board: &mut Board<A, B>,
     format: Format,
     select: u8,
-    report: Report,
+    report: Option<Report>,
     sent: u8,
 ) -> Result<bool, Fail> {
-    if report.kind == ReportKind::Nothing {
+    let Some(report) = report else {
         return Ok(false);
-    }
+    };
     let Format { cr, fr, .. } = format;
     let word = sent & format.mask;
     let kept = Report {
@@ -117,7 +116,7 @@ fn hear<A: Line, B: Line>(
     assert_eq!(rt; report, kept, "CR {cr} FR {fr} select {select}");
     let fresh = Reading {
         byte: word,
-        note: ReadNote::Fresh,
+        note: Some(ReadNote::Fresh),
     };
     assert_eq!(rt;
         board.read(select)?,

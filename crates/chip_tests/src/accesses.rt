@@ -8,7 +8,7 @@ use std::process::Abort;
 use std::test::*;
 use terms::channel_id::ChannelId;
 use terms::modem_line::ModemLine;
-use terms::note::{ReadNote, WriteNote};
+use terms::note::WriteNote;
 use terms::refusal::Refusal;
 
 // The selects that can be read.
@@ -41,8 +41,7 @@ fn step(chip: &mut Chip) {
     chip.cycle(Inputs {
         rxd1: LOW,
         rxd2: HIGH,
-        rxc: true,
-        txc: true,
+        marks: RXC_TXC,
     });
 }
 
@@ -167,8 +166,8 @@ fn a_write_works_when_it_is_ended(rt: HostRuntime) -> Result<(), Fail> {
     let mut other = PoweredChip::power_on().reset();
     let access = WriteAccess::open(3)?;
     let before = chip.write(3, 0x41);
-    assert_eq!(rt; chip.end_write(access, 0x42), WriteNote::Replaced);
-    assert_eq!(rt; before, Ok(WriteNote::Stored));
+    assert_eq!(rt; chip.end_write(access, 0x42), Some(WriteNote::Replaced));
+    assert_eq!(rt; before, Ok(Some(WriteNote::Stored)));
     assert_eq!(rt; other.read(0)?.byte, 0xc1);
     assert_eq!(rt; chip.read(0)?.byte, 0x81);
     Ok(())
@@ -228,15 +227,15 @@ fn tdr_is_replaced_until_its_word_is_taken(rt: HostRuntime) -> Result<(), Fail> 
 fn the_other_registers_have_no_note(rt: HostRuntime) -> Result<(), Fail> {
     for channel in CHANNELS {
         let mut bench = Bench::new(channel);
-        assert_eq!(rt; bench.read(ISR)?.note, ReadNote::Nothing);
-        assert_eq!(rt; bench.read(CSR)?.note, ReadNote::Nothing);
-        assert_eq!(rt; bench.write(IER, 0xff)?, WriteNote::Nothing);
-        assert_eq!(rt; bench.write(IER, 0x7f)?, WriteNote::Nothing);
-        assert_eq!(rt; bench.write(FR, 0xe0)?, WriteNote::Nothing);
-        assert_eq!(rt; bench.write(CR, 0x0f)?, WriteNote::Nothing);
-        assert_eq!(rt; bench.write(CDR, 0x41)?, WriteNote::Nothing);
-        assert_eq!(rt; bench.write(CR, 0x4f)?, WriteNote::Nothing);
-        assert_eq!(rt; bench.write(ACR, 0x03)?, WriteNote::Nothing);
+        assert_eq!(rt; bench.read(ISR)?.note, None);
+        assert_eq!(rt; bench.read(CSR)?.note, None);
+        assert_eq!(rt; bench.write(IER, 0xff)?, None);
+        assert_eq!(rt; bench.write(IER, 0x7f)?, None);
+        assert_eq!(rt; bench.write(FR, 0xe0)?, None);
+        assert_eq!(rt; bench.write(CR, 0x0f)?, None);
+        assert_eq!(rt; bench.write(CDR, 0x41)?, None);
+        assert_eq!(rt; bench.write(CR, 0x4f)?, None);
+        assert_eq!(rt; bench.write(ACR, 0x03)?, None);
     }
     Ok(())
 }

@@ -1,5 +1,6 @@
 // A chip on the bench: one channel of it is under test, and the RxD of the other stays high.
-use channel::channel::ChannelAnswer;
+use channel::channel::{ChannelAnswer, Marks};
+use dacia::access::Place;
 use dacia::chip::{Chip, Inputs, PoweredChip};
 use std::process::Abort;
 use std::test::*;
@@ -35,13 +36,7 @@ pub(crate) const RDR: Register = Register::Data;
 
 pub(crate) const TDR: Register = Register::Data;
 
-// The clock marks of a cycle.
-#[derive(Clone, Copy)]
-pub(crate) struct Marks {
-    pub(crate) rxc: bool,
-    pub(crate) txc: bool,
-}
-
+// The marks of a cycle.
 pub(crate) const UNMARKED: Marks = Marks {
     rxc: false,
     txc: false,
@@ -62,37 +57,45 @@ pub(crate) const RXC_TXC: Marks = Marks {
     txc: true,
 };
 
-// What a cycle reports in which no frame ends.
-pub(crate) const NO_REPORT: Report = Report {
-    kind: ReportKind::Nothing,
-    word: 0,
-};
-
-pub(crate) const BREAK: Report = Report {
-    kind: ReportKind::Break,
-    word: 0,
-};
-
-pub(crate) fn passed(word: u8) -> Report {
-    Report {
-        kind: ReportKind::Passed,
-        word,
-    }
+// What a cycle reports in which a frame ends.
+pub(crate) fn ended(kind: ReportKind, word: u8) -> Option<Report> {
+    Some(Report { kind, word })
 }
 
-pub(crate) fn lost(word: u8) -> Report {
-    Report {
-        kind: ReportKind::Lost,
-        word,
-    }
+pub(crate) fn kept(word: u8) -> Option<Report> {
+    ended(ReportKind::Kept, word)
 }
 
-pub(crate) fn kept(word: u8) -> Report {
-    Report {
-        kind: ReportKind::Kept,
-        word,
-    }
+// A number of data bits: FR without parity, the number, and the greatest word.
+#[derive(Clone, Copy)]
+pub(crate) struct Length {
+    pub(crate) fr: u8,
+    pub(crate) bits: u8,
+    pub(crate) greatest: u8,
 }
+
+pub(crate) const LENGTHS: [Length; 4] = [
+    Length {
+        fr: 0x80,
+        bits: 5,
+        greatest: 0x1f,
+    },
+    Length {
+        fr: 0xa0,
+        bits: 6,
+        greatest: 0x3f,
+    },
+    Length {
+        fr: 0xc0,
+        bits: 7,
+        greatest: 0x7f,
+    },
+    Length {
+        fr: 0xe0,
+        bits: 8,
+        greatest: 0xff,
+    },
+];
 
 // What a frame has behind its start bit: the low `bits` bits of the word, the parity bit if any, and the stop bits.
 #[derive(Clone, Copy)]
@@ -113,16 +116,57 @@ pub(crate) fn plain(word: u8) -> Frame {
     }
 }
 
-// The top bit of a `u16`.
-const TOP: u16 = 0x8000;
-
-// A number moved up until the first of its last `count` bits is the top one.
-fn first_on_top(count: u8, bits: u16) -> u16 {
-    let mut moved = bits;
-    for _ in count..16 {
-        moved = moved % TOP * 2;
+impl Frame {
+    // All its bits, from the start bit on: how many, and the number of them in which the first is the highest.
+    fn row(self) -> (u8, u16) {
+        let data = u16::from(self.word);
+        let mut row = 0u16;
+        for place in 0..self.bits {
+            row = row << 1 | u16::from(bit(data, place));
+        }
+        let mut count = self.bits.saturating_add(1).saturating_add(self.stops);
+        if let Some(parity) = self.parity {
+            row = row << 1 | u16::from(parity);
+            count = count.saturating_add(1);
+        }
+        for _ in 0..self.stops {
+            row = row << 1 | 1;
+        }
+        (count, row)
     }
-    moved
+}
+
+// A bit of a number; those that it has no place for are low.
+fn bit(number: u16, place: u8) -> bool {
+    number.checked_shr(u32::from(place)).unwrap_or(0) % 2 == 1
+}
+
+// A cycle of a chip with one level on the RxD of a channel and another on that of the other one.
+pub(crate) fn cycle_of(
+    chip: &mut Chip,
+    channel: ChannelId,
+    own: bool,
+    other: bool,
+    marks: Marks,
+) -> ChannelAnswer {
+    match channel {
+        ChannelId::One => {
+            chip.cycle(Inputs {
+                rxd1: own,
+                rxd2: other,
+                marks,
+            })
+            .one
+        }
+        ChannelId::Two => {
+            chip.cycle(Inputs {
+                rxd1: other,
+                rxd2: own,
+                marks,
+            })
+            .two
+        }
+    }
 }
 
 #[derive(Drop)]
@@ -153,11 +197,8 @@ impl Bench {
     }
 
     fn select(&self, register: Register) -> u8 {
-        let base = match self.channel {
-            ChannelId::One => 0,
-            ChannelId::Two => 4,
-        };
-        base | register.number()
+        let channel = self.channel;
+        Place { channel, register }.select()
     }
 
     pub(crate) fn read(&mut self, register: Register) -> Result<Reading, Refusal> {
@@ -165,7 +206,11 @@ impl Bench {
         self.chip.read(select)
     }
 
-    pub(crate) fn write(&mut self, register: Register, byte: u8) -> Result<WriteNote, Refusal> {
+    pub(crate) fn write(
+        &mut self,
+        register: Register,
+        byte: u8,
+    ) -> Result<Option<WriteNote>, Refusal> {
         let select = self.select(register);
         self.chip.write(select, byte)
     }
@@ -187,72 +232,35 @@ impl Bench {
     }
 
     pub(crate) fn cycle(&mut self, rxd: bool, marks: Marks) -> ChannelAnswer {
-        let Marks { rxc, txc } = marks;
-        match self.channel {
-            ChannelId::One => {
-                let inputs = Inputs {
-                    rxd1: rxd,
-                    rxd2: HIGH,
-                    rxc,
-                    txc,
-                };
-                self.chip.cycle(inputs).one
-            }
-            ChannelId::Two => {
-                let inputs = Inputs {
-                    rxd1: HIGH,
-                    rxd2: rxd,
-                    rxc,
-                    txc,
-                };
-                self.chip.cycle(inputs).two
-            }
-        }
+        cycle_of(&mut self.chip, self.channel, rxd, HIGH, marks)
     }
 
-    // Cycles marked RxC with one level on RxD; the last report but none.
-    pub(crate) fn hear(&mut self, level: bool, ticks: u16) -> Report {
-        let mut last = NO_REPORT;
+    // Cycles marked RxC with one level on RxD; the last report, if there is one.
+    pub(crate) fn hear(&mut self, level: bool, ticks: u16) -> Option<Report> {
+        let mut last = None;
         for _ in 0..ticks {
-            let report = self.cycle(level, RXC).report;
-            if report.kind != ReportKind::Nothing {
-                last = report;
-            }
+            last = self.cycle(level, RXC).report.or(last);
         }
         last
     }
 
     // The last `count` bits of a number on RxD, the first of them first, each for 16 ticks; the report in the last one.
-    pub(crate) fn hears_bits(&mut self, count: u8, bits: u16) -> Report {
-        let mut last = NO_REPORT;
-        let mut rest = first_on_top(count, bits);
-        for _ in 0..count {
-            last = self.hear(rest >= TOP, 16);
-            rest = rest % TOP * 2;
+    pub(crate) fn hears_bits(&mut self, count: u8, bits: u16) -> Option<Report> {
+        let mut last = None;
+        for place in (0..count).rev() {
+            last = self.hear(bit(bits, place), 16);
         }
         last
     }
 
-    // A frame on RxD; the report in its stop bits.
-    pub(crate) fn hears_frame(&mut self, frame: Frame) -> Report {
-        self.hear(LOW, 16);
-        let mut rest = frame.word;
-        for _ in 0..frame.bits {
-            self.hear(rest % 2 == 1, 16);
-            rest = rest / 2;
-        }
-        if let Some(parity) = frame.parity {
-            self.hear(parity, 16);
-        }
-        let mut ticks = 0u16;
-        for _ in 0..frame.stops {
-            ticks = ticks.wrapping_add(16);
-        }
-        self.hear(HIGH, ticks)
+    // A frame on RxD; the report in its stop bit.
+    pub(crate) fn hears_frame(&mut self, frame: Frame) -> Option<Report> {
+        let (count, row) = frame.row();
+        self.hears_bits(count, row)
     }
 
     // A word on RxD in a plain frame.
-    pub(crate) fn hears_word(&mut self, word: u8) -> Report {
+    pub(crate) fn hears_word(&mut self, word: u8) -> Option<Report> {
         self.hears_frame(plain(word))
     }
 
@@ -283,29 +291,16 @@ impl Bench {
 
     // The last `count` bits of a number on TxD, the first of them first, each for 16 ticks.
     pub(crate) fn sends_bits(&mut self, rt: &impl Abort, count: u8, bits: u16) -> Result<(), Fail> {
-        let mut rest = first_on_top(count, bits);
-        for _ in 0..count {
-            self.sends_level(rt, rest >= TOP, 16)?;
-            rest = rest % TOP * 2;
+        for place in (0..count).rev() {
+            self.sends_level(rt, bit(bits, place), 16)?;
         }
         Ok(())
     }
 
     // A frame on TxD.
     pub(crate) fn sends_frame(&mut self, rt: &impl Abort, frame: Frame) -> Result<(), Fail> {
-        self.sends_level(rt, LOW, 16)?;
-        let mut rest = frame.word;
-        for _ in 0..frame.bits {
-            self.sends_level(rt, rest % 2 == 1, 16)?;
-            rest = rest / 2;
-        }
-        if let Some(parity) = frame.parity {
-            self.sends_level(rt, parity, 16)?;
-        }
-        for _ in 0..frame.stops {
-            self.sends_level(rt, HIGH, 16)?;
-        }
-        Ok(())
+        let (count, row) = frame.row();
+        self.sends_bits(rt, count, row)
     }
 
     pub(crate) fn isr_is(&mut self, rt: &impl Abort, byte: u8) -> Result<(), Fail> {
@@ -320,11 +315,31 @@ impl Bench {
         Ok(())
     }
 
+    // A write to TDR, and its note.
+    pub(crate) fn tdr_notes(
+        &mut self,
+        rt: &impl Abort,
+        word: u8,
+        note: WriteNote,
+    ) -> Result<(), Fail> {
+        assert_eq!(rt;
+            self.write(TDR, word)?,
+            Some(note),
+            "TDR{} at {}",
+            self.channel.number(),
+            self.at
+        );
+        Ok(())
+    }
+
     pub(crate) fn rdr_is(&mut self, rt: &impl Abort, byte: u8, note: ReadNote) -> Result<(), Fail> {
         let reading = self.read(RDR)?;
         assert_eq!(rt;
             reading,
-            Reading { byte, note },
+            Reading {
+                byte,
+                note: Some(note)
+            },
             "RDR{} at {}",
             self.channel.number(),
             self.at

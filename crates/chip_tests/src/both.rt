@@ -1,6 +1,7 @@
 // Both channels at once: they keep apart, a cycle answers for both, and a wire joins them.
 use crate::bench::*;
-use channel::channel::ChannelAnswer;
+use channel::channel::Marks;
+use dacia::access::Place;
 use dacia::chip::{Chip, ChipAnswer, Inputs, PoweredChip};
 use std::process::Abort;
 use std::test::*;
@@ -8,6 +9,7 @@ use terms::channel_id::ChannelId;
 use terms::modem_line::ModemLine;
 use terms::note::{Reading, WriteNote};
 use terms::refusal::Refusal;
+use terms::register::Register;
 
 // A chip with rate code 14 and plain frames in both channels, and nothing to read.
 fn set_up() -> Result<Chip, Refusal> {
@@ -25,8 +27,7 @@ fn wired_cycle(chip: &mut Chip) -> ChipAnswer {
     let inputs = Inputs {
         rxd1: chip.txd(ChannelId::Two),
         rxd2: chip.txd(ChannelId::One),
-        rxc: false,
-        txc: false,
+        marks: UNMARKED,
     };
     chip.cycle(inputs)
 }
@@ -40,8 +41,8 @@ fn a_word_crosses_a_wire_in_924_cycles(rt: HostRuntime) -> Result<(), Fail> {
     for cycle in 1..2000u16 {
         let answer = wired_cycle(&mut chip);
         let ends = cycle == 924;
-        let one = if ends { kept(0x42) } else { NO_REPORT };
-        let two = if ends { kept(0x41) } else { NO_REPORT };
+        let one = if ends { kept(0x42) } else { None };
+        let two = if ends { kept(0x41) } else { None };
         assert_eq!(rt; answer.one.report, one, "{}", cycle);
         assert_eq!(rt; answer.two.report, two, "{}", cycle);
     }
@@ -68,85 +69,62 @@ impl Dice {
     fn level(&mut self) -> bool {
         self.byte() < 128
     }
+
+    fn register(&mut self) -> Register {
+        match self.byte() % 4 {
+            0 => Register::Interrupt,
+            1 => Register::Control,
+            2 => Register::Auxiliary,
+            _ => Register::Data,
+        }
+    }
 }
 
-// What a program does to a channel between two cycles, with registers numbered as in channel 1.
+// What a program does to a channel between two cycles.
 #[derive(Clone, Copy)]
 enum Act {
-    Read(u8),
-    Write(u8, u8),
+    Read(Register),
+    Write(Register, u8),
     Modem(ModemLine, bool),
-    Nothing,
 }
 
-// What comes of it.
+// What an access answers.
 #[derive(Clone, Copy, PartialEq, Debug)]
 enum Outcome {
     Read(Result<Reading, Refusal>),
-    Written(Result<WriteNote, Refusal>),
-    Nothing,
+    Written(Result<Option<WriteNote>, Refusal>),
 }
 
-impl Act {
-    fn thrown(dice: &mut Dice) -> Act {
-        match dice.byte() % 64 {
-            0 => Act::Read(dice.byte() % 4),
-            1 => Act::Write(dice.byte() % 4, dice.byte()),
-            2 => Act::Modem(ModemLine::Cts, dice.level()),
-            3 => Act::Modem(ModemLine::Dcd, dice.level()),
-            4 => Act::Modem(ModemLine::Dsr, dice.level()),
-            // rate code 15, so that there are ticks
-            5 | 6 => Act::Write(1, dice.byte() | 0x0f),
-            7 => Act::Write(3, dice.byte()),
-            8 => Act::Read(3),
-            _ => Act::Nothing,
-        }
-    }
-
-    fn done_to(self, chip: &mut Chip, channel: ChannelId) -> Outcome {
-        let base = match channel {
-            ChannelId::One => 0,
-            ChannelId::Two => 4,
-        };
-        match self {
-            Act::Read(register) => Outcome::Read(chip.read(base | register)),
-            Act::Write(register, byte) => Outcome::Written(chip.write(base | register, byte)),
-            Act::Modem(line, level) => {
-                chip.set_modem(channel, line, level);
-                Outcome::Nothing
-            }
-            Act::Nothing => Outcome::Nothing,
-        }
+// Mostly nothing.
+fn thrown(dice: &mut Dice) -> Option<Act> {
+    match dice.byte() % 64 {
+        0 => Some(Act::Read(dice.register())),
+        1 => Some(Act::Write(dice.register(), dice.byte())),
+        2 => Some(Act::Modem(ModemLine::Cts, dice.level())),
+        3 => Some(Act::Modem(ModemLine::Dcd, dice.level())),
+        4 => Some(Act::Modem(ModemLine::Dsr, dice.level())),
+        // rate code 15, so that there are ticks
+        5 | 6 => Some(Act::Write(CR, dice.byte() | 0x0f)),
+        7 => Some(Act::Write(TDR, dice.byte())),
+        8 => Some(Act::Read(RDR)),
+        _ => None,
     }
 }
 
-// A cycle with one level on the RxD of a channel and another on that of the other one.
-fn cycle_of(
-    chip: &mut Chip,
-    channel: ChannelId,
-    own: bool,
-    other: bool,
-    marks: Marks,
-) -> ChannelAnswer {
-    let Marks { rxc, txc } = marks;
-    match channel {
-        ChannelId::One => {
-            chip.cycle(Inputs {
-                rxd1: own,
-                rxd2: other,
-                rxc,
-                txc,
-            })
-            .one
+// Does it, and answers what comes of an access.
+fn done(act: Option<Act>, chip: &mut Chip, channel: ChannelId) -> Option<Outcome> {
+    match act? {
+        Act::Read(register) => {
+            let select = Place { channel, register }.select();
+            Some(Outcome::Read(chip.read(select)))
         }
-        ChannelId::Two => {
-            chip.cycle(Inputs {
-                rxd1: other,
-                rxd2: own,
-                rxc,
-                txc,
-            })
-            .two
+        Act::Write(register, byte) => {
+            let select = Place { channel, register }.select();
+            Some(Outcome::Written(chip.write(select, byte)))
+        }
+        Act::Modem(line, level) => {
+            chip.set_modem(channel, line, level);
+            None
         }
     }
 }
@@ -158,14 +136,14 @@ fn keeps_to_itself(rt: &impl Abort, channel: ChannelId, other: ChannelId) -> Res
     let mut busy = PoweredChip::power_on().reset();
     let mut level = HIGH;
     for cycle in 0..200000u32 {
-        let act = Act::thrown(&mut dice);
+        let act = thrown(&mut dice);
         assert_eq!(rt;
-            act.done_to(&mut busy, channel),
-            act.done_to(&mut quiet, channel),
+            done(act, &mut busy, channel),
+            done(act, &mut quiet, channel),
             "{}",
             cycle
         );
-        Act::thrown(&mut dice).done_to(&mut busy, other);
+        done(thrown(&mut dice), &mut busy, other);
         if dice.byte() < 16 {
             level = !level;
         }
@@ -175,9 +153,7 @@ fn keeps_to_itself(rt: &impl Abort, channel: ChannelId, other: ChannelId) -> Res
         };
         let left = cycle_of(&mut quiet, channel, level, HIGH, marks);
         let right = cycle_of(&mut busy, channel, level, dice.level(), marks);
-        assert_eq!(rt; left.txd, right.txd, "{}", cycle);
-        assert_eq!(rt; left.irq, right.irq, "{}", cycle);
-        assert_eq!(rt; left.report, right.report, "{}", cycle);
+        assert_eq!(rt; left, right, "{}", cycle);
     }
     Ok(())
 }
@@ -194,13 +170,15 @@ fn a_cycle_answers_the_levels_that_it_leaves(rt: HostRuntime) -> Result<(), Fail
     let mut chip = PoweredChip::power_on().reset();
     for cycle in 0..200000u32 {
         for channel in CHANNELS {
-            Act::thrown(&mut dice).done_to(&mut chip, channel);
+            done(thrown(&mut dice), &mut chip, channel);
         }
         let inputs = Inputs {
             rxd1: dice.byte() < 16,
             rxd2: dice.byte() < 240,
-            rxc: dice.level(),
-            txc: dice.level(),
+            marks: Marks {
+                rxc: dice.level(),
+                txc: dice.level(),
+            },
         };
         let answer = chip.cycle(inputs);
         assert_eq!(rt; answer.one.txd, chip.txd(ChannelId::One), "{}", cycle);

@@ -13,36 +13,8 @@ const PARITIES: [(u8, Parity); 4] = [
     (0x18, Parity::Space),
 ];
 
-// FR bits 6-5 with the greatest word of the length, and the length. Bit 2 of FR is set: there is a parity bit.
-#[derive(Clone, Copy)]
-struct Length {
-    fr: u8,
-    greatest: u8,
-    bits: u8,
-}
-
-const LENGTHS: [Length; 4] = [
-    Length {
-        fr: 0x84,
-        greatest: 0x1f,
-        bits: 5,
-    },
-    Length {
-        fr: 0xa4,
-        greatest: 0x3f,
-        bits: 6,
-    },
-    Length {
-        fr: 0xc4,
-        greatest: 0x7f,
-        bits: 7,
-    },
-    Length {
-        fr: 0xe4,
-        greatest: 0xff,
-        bits: 8,
-    },
-];
+// FR bit 2: there is a parity bit.
+const CHECKED: u8 = 0x04;
 
 // The parity bit of a word.
 fn right_bit(parity: Parity, word: u8) -> bool {
@@ -82,7 +54,7 @@ fn the_parity_bit_is_sent(rt: HostRuntime) -> Result<(), Fail> {
     for channel in CHANNELS {
         for length in LENGTHS {
             for (fr, parity) in PARITIES {
-                let mut bench = Bench::clocked(channel, length.fr | fr)?;
+                let mut bench = Bench::clocked(channel, length.fr | CHECKED | fr)?;
                 bench.at = usize::from(fr);
                 sends_each_word(&rt, &mut bench, length, parity)?;
             }
@@ -158,7 +130,7 @@ fn par_is_a_wrong_parity_bit_or_the_bit_itself(rt: HostRuntime) -> Result<(), Fa
         for length in LENGTHS {
             for (fr, parity) in PARITIES {
                 for (acr, shows_bit) in [(0x00, false), (0x01, true)] {
-                    let mut bench = Bench::clocked(channel, length.fr | fr)?;
+                    let mut bench = Bench::clocked(channel, length.fr | CHECKED | fr)?;
                     bench.write_acr(acr)?;
                     bench.at = usize::from(fr);
                     hears_each_word(&rt, &mut bench, length, parity, shows_bit)?;

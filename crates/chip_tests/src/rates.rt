@@ -1,9 +1,11 @@
 // The ticks of a channel: every so many cycles for the rate codes 0 to 14, and in marked cycles for 15.
 use crate::bench::*;
+use channel::channel::Marks;
 use std::process::Abort;
 use std::test::*;
 use terms::note::ReadNote;
 use terms::refusal::Refusal;
+use terms::report::ReportKind;
 
 // The rate codes with the cycles from tick to tick.
 const DIVISORS: [(u8, u16); 15] = [
@@ -118,7 +120,11 @@ fn a_break_is_reported_at_the_153rd_divisor(rt: HostRuntime) -> Result<(), Fail>
             bench.write(FR, 0xe0)?;
             let end = 153 * divisor as u32;
             for cycle in 1..=end {
-                let report = if cycle < end { NO_REPORT } else { BREAK };
+                let report = if cycle < end {
+                    None
+                } else {
+                    ended(ReportKind::Break, 0)
+                };
                 assert_eq!(rt; bench.cycle(LOW, UNMARKED).report, report, "{}", code);
             }
         }
@@ -205,19 +211,19 @@ fn with_code_15_the_receiver_ticks_on_rxc_alone(rt: HostRuntime) -> Result<(), F
     for channel in CHANNELS {
         let mut bench = Bench::clocked(channel, 0xe0)?;
         for _ in 0..5000 {
-            assert_eq!(rt; bench.cycle(LOW, UNMARKED).report, NO_REPORT);
-            assert_eq!(rt; bench.cycle(LOW, TXC).report, NO_REPORT);
+            assert_eq!(rt; bench.cycle(LOW, UNMARKED).report, None);
+            assert_eq!(rt; bench.cycle(LOW, TXC).report, None);
         }
         // nine low ticks with high levels between that are not seen, and then the other way round
         for _ in 0..9 {
-            assert_eq!(rt; bench.cycle(LOW, RXC).report, NO_REPORT);
-            assert_eq!(rt; bench.cycle(HIGH, UNMARKED).report, NO_REPORT);
-            assert_eq!(rt; bench.cycle(HIGH, TXC).report, NO_REPORT);
+            assert_eq!(rt; bench.cycle(LOW, RXC).report, None);
+            assert_eq!(rt; bench.cycle(HIGH, UNMARKED).report, None);
+            assert_eq!(rt; bench.cycle(HIGH, TXC).report, None);
         }
         for _ in 0..143 {
-            assert_eq!(rt; bench.cycle(HIGH, RXC_TXC).report, NO_REPORT);
-            assert_eq!(rt; bench.cycle(LOW, UNMARKED).report, NO_REPORT);
-            assert_eq!(rt; bench.cycle(LOW, TXC).report, NO_REPORT);
+            assert_eq!(rt; bench.cycle(HIGH, RXC_TXC).report, None);
+            assert_eq!(rt; bench.cycle(LOW, UNMARKED).report, None);
+            assert_eq!(rt; bench.cycle(LOW, TXC).report, None);
         }
         assert_eq!(rt; bench.cycle(HIGH, RXC).report, kept(0xff));
         bench.rdr_is(&rt, 0xff, ReadNote::Fresh)?;

@@ -4,20 +4,13 @@ use crate::script::Step::*;
 use crate::script::play_at;
 use std::test::*;
 use terms::note::ReadNote;
-
-// FR with no parity, its number of data bits, and the greatest word of them.
-const LENGTHS: [(u8, u8, u8); 4] = [
-    (0x80, 5, 0x1f),
-    (0xa0, 6, 0x3f),
-    (0xc0, 7, 0x7f),
-    (0xe0, 8, 0xff),
-];
+use terms::report::ReportKind;
 
 // FR bits 6-5 and TDR: each word is sent cut to its data bits, with the next one right behind it.
 #[test]
 fn each_word_is_sent_cut_to_its_length(rt: HostRuntime) -> Result<(), Fail> {
     for channel in CHANNELS {
-        for (fr, bits, _) in LENGTHS {
+        for Length { fr, bits, .. } in LENGTHS {
             let mut bench = Bench::clocked(channel, fr)?;
             for word in 0..=255 {
                 bench.write(TDR, word)?;
@@ -41,7 +34,7 @@ fn each_word_is_sent_cut_to_its_length(rt: HostRuntime) -> Result<(), Fail> {
 #[test]
 fn each_word_is_kept_at_its_length(rt: HostRuntime) -> Result<(), Fail> {
     for channel in CHANNELS {
-        for (fr, bits, greatest) in LENGTHS {
+        for Length { fr, bits, greatest } in LENGTHS {
             let mut bench = Bench::clocked(channel, fr)?;
             for word in 0..=greatest {
                 let frame = Frame {
@@ -168,9 +161,15 @@ fn cdr_is_compared_bit_by_bit(rt: HostRuntime) -> Result<(), Fail> {
         for address in 0..=255 {
             bench.write(CDR, address)?;
             for bit in [1, 2, 4, 8, 16, 32, 64, 128] {
-                assert_eq!(rt; bench.hears_word(address ^ bit), passed(address ^ bit));
+                assert_eq!(rt;
+                    bench.hears_word(address ^ bit),
+                    ended(ReportKind::Passed, address ^ bit)
+                );
             }
-            assert_eq!(rt; bench.hears_word(address), passed(address));
+            assert_eq!(rt;
+                bench.hears_word(address),
+                ended(ReportKind::Passed, address)
+            );
             assert_eq!(rt; bench.hears_word(address), kept(address));
         }
     }

@@ -5,7 +5,7 @@ use std::test::*;
 use terms::modem_line::ModemLine;
 use terms::note::{ReadNote, WriteNote};
 use terms::register::Register;
-use terms::report::Report;
+use terms::report::{Report, ReportKind};
 
 #[derive(Clone, Copy)]
 pub(crate) enum Step {
@@ -38,48 +38,33 @@ pub(crate) enum Step {
 }
 
 // Takes a step, with what was reported last; answers what is now.
-fn take(rt: &impl Abort, bench: &mut Bench, heard: Report, step: Step) -> Result<Report, Fail> {
-    match step {
+fn take(
+    rt: &impl Abort,
+    bench: &mut Bench,
+    heard: Option<Report>,
+    step: Step,
+) -> Result<Option<Report>, Fail> {
+    let due = match step {
         Step::Hears(level, ticks) => return Ok(bench.hear(level, ticks)),
         Step::HearsBits(count, bits) => return Ok(bench.hears_bits(count, bits)),
         Step::HearsWord(word) => return Ok(bench.hears_word(word)),
-        Step::Kept(word) => assert_eq!(rt;
-            heard,
-            kept(word),
-            "channel {} at {}",
-            bench.channel.number(),
-            bench.at
-        ),
-        Step::Lost(word) => assert_eq!(rt;
-            heard,
-            lost(word),
-            "channel {} at {}",
-            bench.channel.number(),
-            bench.at
-        ),
-        Step::Passed(word) => assert_eq!(rt;
-            heard,
-            passed(word),
-            "channel {} at {}",
-            bench.channel.number(),
-            bench.at
-        ),
-        Step::Broken => assert_eq!(rt;
-            heard,
-            BREAK,
-            "channel {} at {}",
-            bench.channel.number(),
-            bench.at
-        ),
-        Step::Silent => assert_eq!(rt;
-            heard,
-            NO_REPORT,
-            "channel {} at {}",
-            bench.channel.number(),
-            bench.at
-        ),
-        _ => access(rt, bench, step)?,
-    }
+        Step::Kept(word) => ended(ReportKind::Kept, word),
+        Step::Lost(word) => ended(ReportKind::Lost, word),
+        Step::Passed(word) => ended(ReportKind::Passed, word),
+        Step::Broken => ended(ReportKind::Break, 0),
+        Step::Silent => None,
+        _ => {
+            access(rt, bench, step)?;
+            return Ok(heard);
+        }
+    };
+    assert_eq!(rt;
+        heard,
+        due,
+        "channel {} at {}",
+        bench.channel.number(),
+        bench.at
+    );
     Ok(heard)
 }
 
@@ -89,24 +74,8 @@ fn access(rt: &impl Abort, bench: &mut Bench, step: Step) -> Result<(), Fail> {
         Step::Write(register, byte) => {
             bench.write(register, byte)?;
         }
-        Step::Stored(word) => {
-            assert_eq!(rt;
-                bench.write(TDR, word)?,
-                WriteNote::Stored,
-                "channel {} at {}",
-                bench.channel.number(),
-                bench.at
-            );
-        }
-        Step::Replaced(word) => {
-            assert_eq!(rt;
-                bench.write(TDR, word)?,
-                WriteNote::Replaced,
-                "channel {} at {}",
-                bench.channel.number(),
-                bench.at
-            );
-        }
+        Step::Stored(word) => return bench.tdr_notes(rt, word, WriteNote::Stored),
+        Step::Replaced(word) => return bench.tdr_notes(rt, word, WriteNote::Replaced),
         Step::Read(register, byte) => {
             assert_eq!(rt;
                 bench.read(register)?.byte,
@@ -130,7 +99,7 @@ fn access(rt: &impl Abort, bench: &mut Bench, step: Step) -> Result<(), Fail> {
 }
 
 pub(crate) fn play(rt: &impl Abort, bench: &mut Bench, steps: &[Step]) -> Result<(), Fail> {
-    let mut heard = NO_REPORT;
+    let mut heard = None;
     for (place, next) in steps.iter().enumerate() {
         bench.at = place;
         heard = take(rt, bench, heard, *next)?;
