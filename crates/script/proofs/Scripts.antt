@@ -8,7 +8,7 @@ use Rattle.script_words.specs.declared.command.Command.TheVariants.{Read, Write,
 use Rattle.script_words.specs.declared.command.Placed.{Placed}
 use Rattle.script_words.specs.declared.fault.Fault.{Fault}
 use Rattle.script_words.specs.Format.{begins, ends, word, first_word, first_line, Rest, hex_byte, Letter, R, W, C, L, S, letter, after, goes_on, placed, before, read}
-use Rattle.script_lines.proofs.Digits.{after_count, after_cr}
+use Rattle.script_lines.proofs.Digits.{after_count, after_cr, after_fr}
 use Rattle.script.proofs.Steps.{stepped}
 use Rattle.script.specs.Writing.{digit, channel_byte, modem_byte, level_byte, line_end, hex, written, written_script, Sayable, AllSayable, at_lines}
 use Rattle.script.proofs.Lines.{before_none}
@@ -105,7 +105,7 @@ spelt_says L ts cs p =
 spelt_says S ts cs p =
     let cr = hex_spelt after_cr p.1 cs p.4 in
     let r = cr.4 in
-    let fr = hex_spelt (λ x. ends (SetUp cr.0 x ∷ [])) r.1 cs r.4 in
+    let fr = hex_spelt (after_fr cr.0) r.1 cs r.4 in
     record {
       command = SetUp cr.0 fr.0;
       sayable = (cr.2, fr.2);
@@ -140,7 +140,7 @@ spelt_command (Cycles n) h =
     (tt, _, tt, refl, spelt_hex after_count (n / 256) _ _ (omega (arith, h.1)) (c, _, (omega arith, λ e. cc), refl, (d, _, last, refl, (refl, ap (λ x. Cycles x ∷ []) whole))))
 spelt_command (Modem c m v) h = (tt, _, tt, refl, (c, _, tt, refl, (tt, _, tt, refl, (m, _, tt, refl, (tt, _, tt, refl, (v, _, tt, refl, (refl, refl)))))))
 spelt_command (SetUp cr fr) h =
-    let second : Spelt (hex_byte (λ x. ends (SetUp cr x ∷ []))) (hex fr line_end) (SetUp cr fr ∷ []) = spelt_hex (λ x. ends (SetUp cr x ∷ [])) fr line_end _ h.1 (refl, refl) in
+    let second : Spelt (hex_byte (after_fr cr)) (hex fr line_end) (SetUp cr fr ∷ []) = spelt_hex (after_fr cr) fr line_end _ h.1 (refl, refl) in
     (tt, _, tt, refl, spelt_hex after_cr cr _ _ h.0 (tt, _, tt, refl, second))
 
 command_read : (m : Command) → Sayable m → (l : ℕ) (bs : List ℕ) → read begins l 1 (written m ++ bs) ≡ before (placed l (m ∷ [])) (read begins (suc l) 1 bs)

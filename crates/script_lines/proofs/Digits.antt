@@ -17,9 +17,12 @@ line_hex_byte k w i r e = go (spot_at (hex_digit false) w i) (spot_at (hex_digit
     go (Ok a) (Err f) = refl
     go (Err f) l = refl
 
--- what follows the first two digits of a count, and of a set-up
+-- what follows the first two digits of a count, and each byte of a set-up
 abbrev pub after_count : ℕ → Rest
 after_count h = next (hex_digit false) (λ t. next (hex_digit (16 * h + t == 0)) (λ d. ends (Cycles (16 * (16 * h + t) + d) ∷ [])))
 
+abbrev pub after_fr : ℕ → ℕ → Rest
+after_fr cr fr = ends (SetUp cr fr ∷ [])
+
 abbrev pub after_cr : ℕ → Rest
-after_cr cr = word (codes " ") (hex_byte (λ fr. ends (SetUp cr fr ∷ [])))
+after_cr cr = word (codes " ") (hex_byte (after_fr cr))

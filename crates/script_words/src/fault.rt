@@ -20,7 +20,7 @@ pub enum ScriptError {
     OutOfMemory,
 }
 
-// By hand, as a derived `From` promises nothing of the case that it makes.
+// This `From` and the next by hand, as a derived one promises nothing of the case that it makes.
 impl From<Fault> for ScriptError {
     ghost from_gives = { λ f r. r ≡ Faulty f };
 
