@@ -1,15 +1,18 @@
 -- A line read by its places is the line read byte by byte.
-use Rattle.std.proofs.Common.{◌≡◌, ℕ, suc, ◌+◌, ◌<◌, ◌≤◌, Bool, true, false, cond, eqb, List, [], ◌∷◌, ◌++◌, length, take, drop, Some, None, Ok, Err, Option, Result, sym, refl, ap, ◌∙◌, append_assoc, add-suc, arith, length-take}
+use Rattle.std.proofs.Common.{◌≡◌, ℕ, suc, ◌+◌, ◌-◌, ◌<◌, ◌≤◌, Bool, true, false, cond, eqb, List, [], ◌∷◌, ◌++◌, length, take, drop, Some, None, Ok, Err, Option, Result, sym, refl, ap, ◌∙◌, append_assoc, add-suc, arith, length-take}
+use Rattle.std.proofs.lemmas.List.{drop-drop}
+use Rattle.std.specs.List.{slice_get}
 use Rattle.std.specs.Option.{ok_or, option_map}
 use Rattle.script_words.specs.declared.command.Command.{Command}
 use Rattle.script_words.specs.declared.command.Placed.{Placed}
 use Rattle.script_words.specs.declared.fault.Fault.{Fault}
 use Rattle.script_lines.specs.declared.token.Token.{Token}
 use Rattle.script_words.specs.declared.word.Word.{Word}
-use Rattle.script_words.specs.Format.{Spot, only, Value, Rest, begins, ends, next, Letter, R, W, C, L, S, letter, after, fits, misfits, goes, says, goes_on, misfit_at, first_line, placed, before, read}
+use Rattle.script_words.specs.Format.{Spot, only, Value, Rest, begins, ends, next, Letter, R, W, C, L, S, letter, after, fits, misfits, says, goes_on, misfit_at, first_line, placed, before, read}
+use Rattle.script.proofs.Steps.{stepped}
 use Rattle.script_lines.specs.Token.{word_of, letter_of, width, Piece, piece_of, first_piece, token_says}
-use Rattle.script_words.specs.Word.{nth, and_then, line_at, first_line_at}
-use Rattle.script_words.proofs.Places.{nth_none, nth_some, nth_take, drop_next, drop_taken}
+use Rattle.script_words.specs.Word.{and_then, line_at, first_line_at}
+use Rattle.script_words.proofs.Places.{slice_get-take, drop_taken}
 
 -- a line that takes n bytes more
 abbrev pub Wide : Rest → ℕ → Type 0
@@ -27,78 +30,72 @@ abbrev seen : {X : Type 0} → (ℕ → Option X) → Fault → Option ℕ → R
 seen f m o = and_then (ok_or o m) (λ b. ok_or (f b) m)
 
 -- the last byte of a line
-ends_by : (cs : List Command) (m : Fault) (l c : ℕ) (ys : List ℕ) (b : Bool) →
-    ◌≡◌ {A = Result (List Placed) Fault}
-    (elim (cond b (says cs) misfits) [ misfits ↦ Err m | goes r' ↦ read r' l (suc c) ys | says ds ↦ before (placed l ds) (read begins (suc l) 1 ys) ])
-    (onward (and_then (ok_or (cond {A = Option (Unit {0})} b (Some tt) None) m) (λ _. Ok cs)) l ys)
-ends_by cs m l c ys true = refl
-ends_by cs m l c ys false = refl
+ends_by : (cs : List Command) (l c : ℕ) (ys : List ℕ) (b : Bool) →
+    stepped l c ys (cond b (says cs) misfits)
+    ≡ onward (and_then (ok_or (cond {A = Option (Unit {0})} b (Some tt) None) (misfit_at l c)) (λ _. Ok cs)) l ys
+ends_by cs l c ys true = refl
+ends_by cs l c ys false = refl
 
-ends_read : (cs : List Command) (w : Word) (xs : List ℕ) (i : ℕ) → nth i w.bytes.now ≡ nth i xs →
-    read (ends cs) w.line (w.column + i) (drop i xs) ≡ onward (line_at (ends cs) w i) w.line (drop (suc i) xs)
+ends_read : (cs : List Command) (w : Word) (i : ℕ) (xs : List ℕ) → slice_get w.bytes.now i ≡ slice_get xs 0 →
+    read (ends cs) w.line (w.column + i) xs ≡ onward (line_at (ends cs) w i) w.line (drop 1 xs)
 unfolding read
-ends_read cs w xs i same = go (drop i xs) refl
+ends_read cs w i xs same = go xs ∙ sym (ap (λ o. at o (drop 1 xs)) same)
   where
-    m : Fault
-    m = misfit_at w.line (w.column + i)
-
     at : Option ℕ → List ℕ → Result (List Placed) Fault
-    at o ys = onward (and_then (seen (fits (only 10)) m o) (λ _. Ok cs)) w.line ys
+    at o ys = onward (and_then (seen (fits (only 10)) (misfit_at w.line (w.column + i)) o) (λ _. Ok cs)) w.line ys
 
-    go : (ds : List ℕ) → drop i xs ≡ ds → read (ends cs) w.line (w.column + i) ds ≡ at (nth i w.bytes.now) (drop (suc i) xs)
-    go [] e = sym (ap (λ o. at o (drop (suc i) xs)) (same ∙ nth_none xs i e))
-    go (x ∷ ys) e =
-        ends_by cs m w.line (w.column + i) ys (eqb x 10)
-        ∙ sym (ap (λ o. at o (drop (suc i) xs)) (same ∙ nth_some xs i x ys e) ∙ ap (λ zs. at (Some x) zs) (drop_next xs i x ys e))
+    go : (xs : List ℕ) → read (ends cs) w.line (w.column + i) xs ≡ at (slice_get xs 0) (drop 1 xs)
+    go [] = refl
+    go (x ∷ ys) = ends_by cs w.line (w.column + i) ys (eqb x 10)
 
 -- any other byte
-next_by : (s : Spot) (k : Value s → Rest) (m : Fault) (l c : ℕ) (ys rest : List ℕ) (line : Rest → Result (List Command) Fault) →
+next_by : (s : Spot) (k : Value s → Rest) (l c : ℕ) (ys rest : List ℕ) (line : Rest → Result (List Command) Fault) →
     ((v : Value s) → read (k v) l (suc c) ys ≡ onward (line (k v)) l rest) → (o : Option (Value s)) →
-    ◌≡◌ {A = Result (List Placed) Fault}
-    (elim (goes_on o k) [ misfits ↦ Err m | goes r' ↦ read r' l (suc c) ys | says ds ↦ before (placed l ds) (read begins (suc l) 1 ys) ])
-    (onward (and_then (ok_or o m) (λ v. line (k v))) l rest)
-next_by s k m l c ys rest line ih None = refl
-next_by s k m l c ys rest line ih (Some v) = ih v
+    stepped l c ys (goes_on o k) ≡ onward (and_then (ok_or o (misfit_at l c)) (λ v. line (k v))) l rest
+next_by s k l c ys rest line ih None = refl
+next_by s k l c ys rest line ih (Some v) = ih v
 
-next_read : (s : Spot) (k : Value s → Rest) (w : Word) (xs : List ℕ) (i : ℕ) (rest : List ℕ) → nth i w.bytes.now ≡ nth i xs →
-    ((v : Value s) → read (k v) w.line (w.column + suc i) (drop (suc i) xs) ≡ onward (line_at (k v) w (suc i)) w.line rest) →
-    read (next s k) w.line (w.column + i) (drop i xs) ≡ onward (line_at (next s k) w i) w.line rest
+next_read : (s : Spot) (k : Value s → Rest) (w : Word) (i : ℕ) (xs rest : List ℕ) → slice_get w.bytes.now i ≡ slice_get xs 0 →
+    ((v : Value s) → read (k v) w.line (w.column + suc i) (drop 1 xs) ≡ onward (line_at (k v) w (suc i)) w.line rest) →
+    read (next s k) w.line (w.column + i) xs ≡ onward (line_at (next s k) w i) w.line rest
 unfolding read
-next_read s k w xs i rest same ih = go (drop i xs) refl
+next_read s k w i xs rest same ih = go xs ih ∙ sym (ap at same)
   where
-    m : Fault
-    m = misfit_at w.line (w.column + i)
-
     at : Option ℕ → Result (List Placed) Fault
-    at o = onward (and_then (seen (fits s) m o) (λ v. line_at (k v) w (suc i))) w.line rest
+    at o = onward (and_then (seen (fits s) (misfit_at w.line (w.column + i)) o) (λ v. line_at (k v) w (suc i))) w.line rest
 
-    go : (ds : List ℕ) → drop i xs ≡ ds → read (next s k) w.line (w.column + i) ds ≡ at (nth i w.bytes.now)
-    go [] e = sym (ap at (same ∙ nth_none xs i e))
-    go (x ∷ ys) e =
-        next_by s k m w.line (w.column + i) ys rest (λ r. line_at r w (suc i))
-        (λ v. ap (λ z. read (k v) w.line z ys) (sym (add-suc w.column i)) ∙ ap (λ zs. read (k v) w.line (w.column + suc i) zs) (sym (drop_next xs i x ys e)) ∙ ih v)
-        (fits s x)
-        ∙ sym (ap at (same ∙ nth_some xs i x ys e))
+    go : (xs : List ℕ) → ((v : Value s) → read (k v) w.line (w.column + suc i) (drop 1 xs) ≡ onward (line_at (k v) w (suc i)) w.line rest) →
+        read (next s k) w.line (w.column + i) xs ≡ at (slice_get xs 0)
+    go [] ih = refl
+    go (x ∷ ys) ih =
+        next_by s k w.line (w.column + i) ys rest (λ r. line_at r w (suc i)) (λ v. ap (λ z. read (k v) w.line z ys) (sym (add-suc w.column i)) ∙ ih v) (fits s x)
 
-pub line_read : (r : Rest) (n : ℕ) → Wide r n → (w : Word) (xs : List ℕ) (i : ℕ) → ((j : ℕ) → j < i + n → nth j w.bytes.now ≡ nth j xs) →
-    read r w.line (w.column + i) (drop i xs) ≡ onward (line_at r w i) w.line (drop (i + n) xs)
-line_read begins n h w xs i same = absurd h
-line_read (ends cs) n h w xs i same =
-    ends_read cs w xs i (same i (omega arith)) ∙ ap (λ j. onward (line_at (ends cs) w i) w.line (drop j xs)) (let e : suc i ≡ i + n = omega arith in e)
-line_read (next s k) n h w xs i same =
-    let far : suc i + h.0 ≡ i + n = omega (arith, h.1) in
-    next_read s k w xs i (drop (i + n) xs) (same i (omega (arith, h.1)))
-    (λ v. line_read (k v) h.0 (h.2 v) w xs (suc i) (λ j lt. same j (omega (arith, h.1))) ∙ ap (λ j. onward (line_at (k v) w (suc i)) w.line (drop j xs)) far)
+-- the bytes of the word from the byte i on are those of the text
+pub line_read : (r : Rest) (n : ℕ) → Wide r n → (w : Word) (i : ℕ) (xs : List ℕ) → ((j : ℕ) → j < n → slice_get w.bytes.now (i + j) ≡ slice_get xs j) →
+    read r w.line (w.column + i) xs ≡ onward (line_at r w i) w.line (drop n xs)
+line_read begins n h w i xs same = absurd h
+line_read (ends cs) n h w i xs same =
+    ends_read cs w i xs (ap (slice_get w.bytes.now) (let z : i ≡ i + 0 = omega arith in z) ∙ same 0 (omega arith))
+    ∙ ap (λ z. onward (line_at (ends cs) w i) w.line (drop z xs)) (sym h)
+line_read (next s k) n h w i xs same =
+    next_read s k w i xs (drop n xs) (ap (slice_get w.bytes.now) (let z : i ≡ i + 0 = omega arith in z) ∙ same 0 (omega (arith, h.1)))
+    (λ v. line_read (k v) h.0 (h.2 v) w (suc i) (drop 1 xs)
+    (λ j lt. ap (slice_get w.bytes.now) (let z : suc i + j ≡ i + suc j = omega arith in z) ∙ same (suc j) (omega (arith, h.1)) ∙ sym (slice_get-next xs j))
+    ∙ ap (onward (line_at (k v) w (suc i)) w.line) (drop-drop h.0 1 xs ∙ ap (λ z. drop z xs) (let z : 1 + h.0 ≡ n = omega (arith, h.1) in z)))
+  where
+    slice_get-next : (xs : List ℕ) (j : ℕ) → slice_get (drop 1 xs) j ≡ slice_get xs (suc j)
+    slice_get-next [] j = refl
+    slice_get-next (x ∷ xs) j = refl
 
--- the lines' widths after the letter
-abbrev tail : Letter → ℕ
-tail R = 3
-tail W = 6
-tail C = 6
-tail L = 7
-tail S = 7
+-- a line's width after the letter
+pub some_width : (k : Letter) → 0 < width k
+some_width R = omega arith
+some_width W = omega arith
+some_width C = omega arith
+some_width L = omega arith
+some_width S = omega arith
 
-wide : (k : Letter) → Wide (after k) (tail k)
+wide : (k : Letter) → Wide (after k) (width k - 1)
 wide R = (2, refl, λ _. (1, refl, λ _. refl))
 wide W = (5, refl, λ _. (4, refl, λ _. (3, refl, λ _. (2, refl, λ _. (1, refl, λ _. refl)))))
 wide C = (5, refl, λ _. (4, refl, λ _. (3, refl, λ _. (2, refl, λ _. (1, refl, λ _. refl)))))
@@ -107,13 +104,6 @@ wide S = (6, refl, λ _. (5, refl, λ _. (4, refl, λ _. (3, refl, λ _. (2, ref
 
 pub wide_first : Wide first_line 9
 wide_first = (8, refl, λ _. (7, refl, λ _. (6, refl, λ _. (5, refl, λ _. (4, refl, λ _. (3, refl, λ _. (2, refl, λ _. (1, refl, λ _. refl))))))))
-
-tail_width : (k : Letter) → 1 + tail k ≡ width k
-tail_width R = refl
-tail_width W = refl
-tail_width C = refl
-tail_width L = refl
-tail_width S = refl
 
 -- the token that a text begins with
 pub record Begins (t : Token) (bs : List ℕ) (l : ℕ) : Type 0 where
@@ -140,48 +130,39 @@ begun t x xs l k has same = record {
 }
 
 pub begins_with : (t : Token) (bs : List ℕ) (l : ℕ) → Ok (piece_of t) ≡ first_piece bs l → Begins t bs l
-begins_with t [] l e = absurd (let z : ◌≡◌ {A = ℕ} 0 1 = cc in omega arith)
+begins_with t [] l e = cc
 begins_with t (x ∷ xs) l e = go (letter x) refl
   where
     go : (o : Option Letter) → letter x ≡ o → Begins t (x ∷ xs) l
-    go None h = absurd (let z : ◌≡◌ {A = Result Piece Fault} (Ok (piece_of t)) (Err (misfit_at l 1)) = e ∙ ap (λ o. ok_or (option_map (piece_at (x ∷ xs) l) o) (misfit_at l 1)) h in let y : ◌≡◌ {A = ℕ} 0 1 = cc in omega arith)
-    go (Some k) h =
-        let z : ◌≡◌ {A = Result Piece Fault} (Ok (piece_of t)) (Ok (piece_at (x ∷ xs) l k)) = e ∙ ap (λ o. ok_or (option_map (piece_at (x ∷ xs) l) o) (misfit_at l 1)) h in
-        begun t x xs l k h (cc)
+    go None h = let z = e ∙ ap (λ o. ok_or (option_map (piece_at (x ∷ xs) l) o) (misfit_at l 1)) h in cc
+    go (Some k) h = let z = e ∙ ap (λ o. ok_or (option_map (piece_at (x ∷ xs) l) o) (misfit_at l 1)) h in begun t x xs l k h (cc)
 
 -- a line is read as its token says
-letter_read : (o : Option Letter) (k : Letter) (l : ℕ) (xs : List ℕ) → o ≡ Some k →
-    ◌≡◌ {A = Result (List Placed) Fault}
-    (elim (goes_on o after) [ misfits ↦ Err (misfit_at l 1) | goes r' ↦ read r' l 2 xs | says ds ↦ before (placed l ds) (read begins (suc l) 1 xs) ])
-    (read (after k) l 2 xs)
-letter_read o k l xs e =
-    ap (λ z. elim (goes_on z after) [ misfits ↦ Err (misfit_at l 1) | goes r' ↦ read r' l 2 xs | says ds ↦ before (placed l ds) (read begins (suc l) 1 xs) ]) e
+letter_read : (o : Option Letter) (k : Letter) (l : ℕ) (xs : List ℕ) → o ≡ Some k → stepped l 1 xs (goes_on o after) ≡ read (after k) l 2 xs
+letter_read o k l xs e = ap (λ z. stepped l 1 xs (goes_on z after)) e
 
 pub token_read : (t : Token) (bs : List ℕ) (l : ℕ) → Begins t bs l → read begins l 1 bs ≡ onward (token_says t) l (drop (length (word_of t).bytes.now) bs)
 unfolding read
 token_read t bs l b =
     let k : Letter = letter_of t in
     let w : Word = word_of t in
-    let long : 1 + tail k ≡ width k = tail_width k in
-    let same : (j : ℕ) → j < 1 + tail k → nth j w.bytes.now ≡ nth j bs = λ j lt. ap (nth j) b.bytes ∙ nth_take (width k) bs j (omega arith) in
-    let whole : read (after k) w.line (w.column + 1) (drop 1 bs) ≡ onward (line_at (after k) w 1) w.line (drop (1 + tail k) bs) = line_read (after k) (tail k) (wide k) w bs 1 same in
-    ap (read begins l 1) b.parts
-    ∙ letter_read (letter b.byte) k l b.rest b.lettered
-    ∙ sym (ap (λ zs. read (after k) l 2 (drop 1 zs)) b.parts)
-    ∙ sym (ap (λ z. read (after k) l (z + 1) (drop 1 bs)) b.column)
-    ∙ sym (ap (λ z. read (after k) z (w.column + 1) (drop 1 bs)) b.line)
-    ∙ whole
-    ∙ ap (λ z. onward (line_at (after k) w 1) z (drop (1 + tail k) bs)) b.line
-    ∙ ap (λ z. onward (line_at (after k) w 1) l (drop z bs)) long
-    ∙ ap (λ zs. onward (line_at (after k) w 1) l zs) (sym (drop_taken (width k) bs) ∙ ap (λ zs. drop (length zs) bs) (sym b.bytes))
+    let n : ℕ = width k - 1 in
+    let long : suc n ≡ width k = omega (arith, some_width k) in
+    let same : (j : ℕ) → j < n → slice_get w.bytes.now (1 + j) ≡ slice_get b.rest j =
+    λ j lt. ap (slice_get w.bytes.now) (let z : 1 + j ≡ suc j = omega arith in z) ∙ ap (λ zs. slice_get zs (suc j)) b.bytes
+    ∙ slice_get-take (width k) bs (suc j) (omega arith) ∙ ap (λ zs. slice_get zs (suc j)) b.parts in
+    let two : w.column + 1 ≡ 2 = omega (arith, b.column) in
+    let first : read begins l 1 (b.byte ∷ b.rest) ≡ read (after k) l 2 b.rest = letter_read (letter b.byte) k l b.rest b.lettered in
+    let whole : read (after k) w.line (w.column + 1) b.rest ≡ onward (line_at (after k) w 1) w.line (drop n b.rest) = line_read (after k) n (wide k) w 1 b.rest same in
+    let left : drop (length w.bytes.now) bs ≡ drop n b.rest =
+    ap (λ zs. drop (length zs) bs) b.bytes ∙ drop_taken (width k) bs ∙ ap (λ z. drop z bs) (sym long) ∙ ap (drop (suc n)) b.parts in
+    cc
 
 -- a text that begins with no token
 no_letter : (o : Option Letter) (l : ℕ) (bs xs : List ℕ) (f : Fault) → Err f ≡ ok_or (option_map (piece_at bs l) o) (misfit_at l 1) →
-    ◌≡◌ {A = Result (List Placed) Fault}
-    (elim (goes_on o after) [ misfits ↦ Err (misfit_at l 1) | goes r' ↦ read r' l 2 xs | says ds ↦ before (placed l ds) (read begins (suc l) 1 xs) ])
-    (Err f)
-no_letter None l bs xs f e = let z : f ≡ misfit_at l 1 = cc in ap Err (sym z)
-no_letter (Some k) l bs xs f e = absurd (let y : ◌≡◌ {A = ℕ} 0 1 = cc in omega arith)
+    stepped l 1 xs (goes_on o after) ≡ Err f
+no_letter None l bs xs f e = cc
+no_letter (Some k) l bs xs f e = cc
 
 pub no_token : (bs : List ℕ) (l : ℕ) (f : Fault) → Err f ≡ first_piece bs l → 0 < length bs → read begins l 1 bs ≡ Err f
 unfolding read
@@ -192,7 +173,7 @@ pub fewer : (t : Token) (bs : List ℕ) (l : ℕ) → Begins t bs l → (0 < len
 fewer t bs l b =
     let n = ap length b.bytes ∙ length-take (width (letter_of t)) bs in
     let m = ap length b.parts in
-    let k : 1 + tail (letter_of t) ≡ width (letter_of t) = tail_width (letter_of t) in
+    let k = some_width (letter_of t) in
     (omega (arith, n, m, k), omega (arith, n, m, k))
 
 pub before_none : (r : Result (List Placed) Fault) → before [] r ≡ r
@@ -206,9 +187,7 @@ before_again ps p (Err f) = refl
 pub first_read : (w : Word) → w.line ≡ 1 → w.column ≡ 1 → read first_line 1 1 w.bytes.now ≡ onward (first_line_at w) 1 (drop 9 w.bytes.now)
 unfolding first_line_at
 first_read w l c =
+    let one : w.column + 0 ≡ 1 = omega (arith, c) in
     let whole : read first_line w.line (w.column + 0) w.bytes.now ≡ onward (line_at first_line w 0) w.line (drop 9 w.bytes.now) =
-    line_read first_line 9 wide_first w w.bytes.now 0 (λ j lt. refl) in
-    sym (ap (λ z. read first_line z 1 w.bytes.now) l)
-    ∙ sym (ap (λ z. read first_line w.line (z + 0) w.bytes.now) c)
-    ∙ whole
-    ∙ ap (λ z. onward (line_at first_line w 0) z (drop 9 w.bytes.now)) l
+    line_read first_line 9 wide_first w 0 w.bytes.now (λ j lt. ap (slice_get w.bytes.now) (let z : 0 + j ≡ j = omega arith in z)) in
+    cc

@@ -1,14 +1,17 @@
 -- Where a fault stands: what comes before it can go on to a script, and with the byte there it cannot.
 use Rattle.std.proofs.Common.{◌≡◌, ℕ, suc, ◌≤◌, Bool, true, false, cond, eqb, List, [], ◌∷◌, ◌++◌, is_ok, Some, None, Ok, Err, Option, Result, sym, refl, ap, ◌∙◌, subst, arith}
 use Rattle.std.proofs.lemmas.Bool.{cond-true, cond-false, ne_eqb}
+use Rattle.std.proofs.lemmas.Bool.Decides.{nat_tests}
+use Rattle.std.proofs.lemmas.Option.{none-some}
 use Rattle.terms.specs.declared.channel_id.ChannelId.TheVariants.{One}
 use Rattle.terms.specs.declared.modem_line.ModemLine.TheVariants.{Cts}
 use Rattle.script_words.specs.declared.command.Command.{Command}
 use Rattle.script_words.specs.declared.command.Placed.{Placed}
 use Rattle.script_words.specs.declared.fault.Fault.{Fault}
 use Rattle.script_words.specs.Format.{Spot, only, select_digit, hex_digit, channel_digit, line_letter, level_digit, Value, fits, Rest, begins, ends, next, first_line, Letter, R, W, C, L, S, letter, after, Step, misfits, goes, says, goes_on, step, misfit_at, at_end, placed, before, read}
+use Rattle.script.proofs.Steps.{stepped}
 use Rattle.script.specs.Laws.{place_from}
-use Rattle.script.proofs.Spellings.{shows, Holds, shows_fits, no_line_end, none_some}
+use Rattle.script.proofs.Spellings.{shows, Holds, shows_fits, PlainSpot, no_line_end}
 
 -- whether bytes go on to the end of a script
 may_end : Rest → Bool
@@ -36,7 +39,7 @@ ok_end (ends cs) l c = refl
 ok_end (next s k) l c = refl
 
 ok_step : (t : Step) (l c : ℕ) (xs : List ℕ) → ((r : Rest) (m n : ℕ) → is_ok (read r m n xs) ≡ accepts r xs) →
-    is_ok (elim t [ misfits ↦ Err (misfit_at l c) | goes r' ↦ read r' l (suc c) xs | says cs ↦ before (placed l cs) (read begins (suc l) 1 xs) ])
+    is_ok (stepped l c xs t)
     ≡ taken t (λ r'. accepts r' xs) (accepts begins xs)
 ok_step misfits l c xs ih = refl
 ok_step (goes r) l c xs ih = ih r l (suc c)
@@ -66,96 +69,48 @@ complete (next s k) =
     (shows s v.0 ∷ more.0, ap (λ o. taken (goes_on o k) (λ r'. accepts r' more.0) (accepts begins more.0)) (shows_fits s v.0 v.1) ∙ more.1)
 
 -- no place within a line has $0A
-abbrev plain_spot : Spot → Type 0
-plain_spot s = (b : ℕ) → s ≡ only b → b ≡ 10 → ⊥
-
 abbrev Plain : Rest → Type 0
 Plain begins = Unit {0}
 Plain (ends cs) = Unit {0}
-Plain (next s k) = plain_spot s × ((v : Value s) → Plain (k v))
-
-byte_of : Spot → ℕ
-byte_of (only b) = b
-byte_of select_digit = 0
-byte_of (hex_digit positive) = 0
-byte_of channel_digit = 0
-byte_of line_letter = 0
-byte_of level_digit = 0
-
-plain_spot_lem : (s : Spot) → (byte_of s ≡ 10 → ⊥) → plain_spot s
-unfolding byte_of
-plain_spot_lem s other b e ten = other (ap byte_of e ∙ ten)
-
-space : plain_spot (only 32)
-unfolding byte_of
-space = plain_spot_lem (only 32) (λ e. omega arith)
+Plain (next s k) = PlainSpot s × ((v : Value s) → Plain (k v))
 
 plain : (k : Letter) → Plain (after k)
-unfolding byte_of
-plain R = (space, λ _. (plain_spot_lem select_digit (λ e. omega arith), λ _. tt))
-plain W = (space, λ _. (plain_spot_lem select_digit (λ e. omega arith), λ _. (space, λ _. (plain_spot_lem (hex_digit false) (λ e. omega arith), λ _. (plain_spot_lem (hex_digit false) (λ e. omega arith), λ _. tt)))))
-plain C = (space, λ _. (plain_spot_lem (hex_digit false) (λ e. omega arith), λ h. (plain_spot_lem (hex_digit false) (λ e. omega arith), λ _. (plain_spot_lem (hex_digit false) (λ e. omega arith), λ _. (plain_spot_lem (hex_digit _) (λ e. omega arith), λ _. tt)))))
-plain L = (space, λ _. (plain_spot_lem channel_digit (λ e. omega arith), λ _. (space, λ _. (plain_spot_lem line_letter (λ e. omega arith), λ _. (space, λ _. (plain_spot_lem level_digit (λ e. omega arith), λ _. tt))))))
-plain S = (space, λ _. (plain_spot_lem (hex_digit false) (λ e. omega arith), λ _. (plain_spot_lem (hex_digit false) (λ e. omega arith), λ _. (space, λ _. (plain_spot_lem (hex_digit false) (λ e. omega arith), λ _. (plain_spot_lem (hex_digit false) (λ e. omega arith), λ _. tt))))))
-
-plain_only : (b : ℕ) → (b ≡ 10 → ⊥) → plain_spot (only b)
-unfolding byte_of
-plain_only b other = plain_spot_lem (only b) other
+plain R = (λ e. omega arith, λ _. (tt, λ _. tt))
+plain W = (λ e. omega arith, λ _. (tt, λ _. (λ e. omega arith, λ _. (tt, λ _. (tt, λ _. tt)))))
+plain C = (λ e. omega arith, λ _. (tt, λ _. (tt, λ _. (tt, λ _. (tt, λ _. tt)))))
+plain L = (λ e. omega arith, λ _. (tt, λ _. (λ e. omega arith, λ _. (tt, λ _. (λ e. omega arith, λ _. (tt, λ _. tt))))))
+plain S = (λ e. omega arith, λ _. (tt, λ _. (tt, λ _. (λ e. omega arith, λ _. (tt, λ _. (tt, λ _. tt))))))
 
 pub plain_first : Plain first_line
-plain_first = (
-  plain_only 68 (λ e. omega arith),
-  λ _. (
-    plain_only 85 (λ e. omega arith),
-    λ _. (
-      plain_only 83 (λ e. omega arith),
-      λ _. (
-        space,
-        λ _.
-            (plain_only 48 (λ e. omega arith), λ _. (plain_only 48 (λ e. omega arith), λ _. (plain_only 48 (λ e. omega arith), λ _. (plain_only 49 (λ e. omega arith), λ _. tt)))),
-      ),
-    ),
-  ),
-)
+plain_first =
+    (λ e. omega arith, λ _. (λ e. omega arith, λ _. (λ e. omega arith, λ _. (λ e. omega arith, λ _. (λ e. omega arith, λ _. (λ e. omega arith, λ _. (λ e. omega arith, λ _. (λ e. omega arith, λ _. tt))))))))
 
 -- where a step leads
 goes_on_lem : (s : Spot) (k : Value s → Rest) (x : ℕ) (r' : Rest) → Plain (next s k) → (o : Option (Value s)) → fits s x ≡ o → goes_on o k ≡ goes r' → Plain r' × (eqb x 10 ≡ false)
-goes_on_lem s k x r' p None e h = absurd (let z : ◌≡◌ {A = ℕ} 0 1 = cc in omega arith)
+goes_on_lem s k x r' p None e h = cc
 goes_on_lem s k x r' p (Some v) e h =
     let same : k v ≡ r' = cc in
     (subst Plain same (p.1 v), no_line_end s v x e p.0)
 
 goes_letter : (x : ℕ) (r' : Rest) (o : Option Letter) → letter x ≡ o → goes_on o after ≡ goes r' → Plain r' × (eqb x 10 ≡ false)
-goes_letter x r' None e h = absurd (let z : ◌≡◌ {A = ℕ} 0 1 = cc in omega arith)
+goes_letter x r' None e h = cc
 goes_letter x r' (Some k) e h =
     let same : after k ≡ r' = cc in
-    (subst Plain same (plain k), ne_eqb x 10 (λ ten. none_some k (sym (ap letter ten) ∙ e)))
+    (subst Plain same (plain k), ne_eqb x 10 (λ ten. none-some k (sym (ap letter ten) ∙ e)))
 
 goes_plain : (r : Rest) (x : ℕ) (r' : Rest) → Plain r → step r x ≡ goes r' → Plain r' × (eqb x 10 ≡ false)
 goes_plain begins x r' p h = goes_letter x r' (letter x) refl h
-goes_plain (ends cs) x r' p h = ended (eqb x 10) h
-  where
-    ended : (b : Bool) → cond b (says cs) misfits ≡ goes r' → Plain r' × (eqb x 10 ≡ false)
-    ended true e = absurd (let z : ◌≡◌ {A = ℕ} 0 1 = cc in omega arith)
-    ended false e = absurd (let z : ◌≡◌ {A = ℕ} 0 1 = cc in omega arith)
+goes_plain (ends cs) x r' p h = grind (arith, nat_tests)
 goes_plain (next s k) x r' p h = goes_on_lem s k x r' p (fits s x) refl h
 
 says_end : (r : Rest) (x : ℕ) (cs : List Command) → step r x ≡ says cs → eqb x 10 ≡ true
-says_end begins x cs h = ended (letter x) h
-  where
-    ended : (o : Option Letter) → goes_on o after ≡ says cs → eqb x 10 ≡ true
-    ended None e = absurd (let z : ◌≡◌ {A = ℕ} 0 1 = cc in omega arith)
-    ended (Some k) e = absurd (let z : ◌≡◌ {A = ℕ} 0 1 = cc in omega arith)
-says_end (ends ds) x cs h = ended (eqb x 10) refl h
-  where
-    ended : (b : Bool) → eqb x 10 ≡ b → cond b (says ds) misfits ≡ says cs → eqb x 10 ≡ true
-    ended true e d = e
-    ended false e d = absurd (let z : ◌≡◌ {A = ℕ} 0 1 = cc in omega arith)
+says_end begins x cs h = grind (arith, nat_tests)
+says_end (ends ds) x cs h = grind (arith, nat_tests)
 says_end (next s k) x cs h = ended (fits s x) h
   where
     ended : (o : Option (Value s)) → goes_on o k ≡ says cs → eqb x 10 ≡ true
-    ended None e = absurd (let z : ◌≡◌ {A = ℕ} 0 1 = cc in omega arith)
-    ended (Some v) e = absurd (let z : ◌≡◌ {A = ℕ} 0 1 = cc in omega arith)
+    ended None e = cc
+    ended (Some v) e = cc
 
 -- the first byte, or the end, at which a rest goes on no more
 abbrev pub Halts : Rest → List ℕ → List ℕ → Type 0
@@ -207,12 +162,12 @@ stop_later r r' l c l' c' x bs f same moved t = record {
 
 end_fault : (r : Rest) (l c : ℕ) (f : Fault) → at_end r l c ≡ Err f → (f ≡ misfit_at l c) × (may_end r ≡ false)
 unfolding may_end
-end_fault begins l c f e = absurd (let z : ◌≡◌ {A = ℕ} 0 1 = cc in omega arith)
-end_fault (ends cs) l c f e = ((let q : f ≡ misfit_at l c = cc in q), refl)
-end_fault (next s k) l c f e = ((let q : f ≡ misfit_at l c = cc in q), refl)
+end_fault begins l c f e = cc
+end_fault (ends cs) l c f e = ((cc), refl)
+end_fault (next s k) l c f e = ((cc), refl)
 
 before_fault : (ps : List Placed) (z : Result (List Placed) Fault) (f : Fault) → before ps z ≡ Err f → z ≡ Err f
-before_fault ps (Ok qs) f e = absurd (let z : ◌≡◌ {A = ℕ} 0 1 = cc in omega arith)
+before_fault ps (Ok qs) f e = cc
 before_fault ps (Err g) f e = e
 
 pub stop : (bs : List ℕ) (r : Rest) (l c : ℕ) (f : Fault) → Plain r → read r l c bs ≡ Err f → Stop r l c bs f
@@ -221,11 +176,9 @@ stop [] r l c f p e = let h = end_fault r l c f e in stop_here r l c [] f h.0 h.
 stop (x ∷ xs) r l c f p e = go (λ r' m n q d. stop xs r' m n f q d) (step r x) refl e
   where
     go : ((r' : Rest) (m n : ℕ) → Plain r' → read r' m n xs ≡ Err f → Stop r' m n xs f) → (t : Step) → step r x ≡ t →
-        ◌≡◌ {A = Result (List Placed) Fault}
-        (elim t [ misfits ↦ Err (misfit_at l c) | goes r' ↦ read r' l (suc c) xs | says cs ↦ before (placed l cs) (read begins (suc l) 1 xs) ])
-        (Err f) → Stop r l c (x ∷ xs) f
+        stepped l c xs t ≡ Err f → Stop r l c (x ∷ xs) f
     go ih misfits h d =
-        stop_here r l c (x ∷ xs) f (let q : f ≡ misfit_at l c = cc in q)
+        stop_here r l c (x ∷ xs) f (cc)
         (λ more. ap (λ t. taken t (λ r'. accepts r' more) (accepts begins more)) h)
     go ih (goes r') h d =
         let q = goes_plain r x r' p h in

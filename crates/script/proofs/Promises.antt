@@ -3,7 +3,7 @@ use Rattle.std.proofs.Common.{◌≡◌, ℕ, ◌≤◌, Bool, true, false, cond
 use Rattle.std.proofs.lemmas.Bool.{cases_lt, eq-eqb, ne_eqb, true≢false}
 use Rattle.std.specs.declared.alloc.Global.{Global}
 use Rattle.script_words.specs.Refusal.{script_refusal_number}
-use Rattle.script_words.specs.declared.refusal.ScriptRefusal.TheVariants.{BadFirstLine, BadScript, ScriptTooLong}
+use Rattle.script_words.specs.declared.refusal.ScriptRefusal.TheVariants.{BadFirstLine, BadScript}
 use Rattle.script_words.specs.declared.command.Placed.{Placed}
 use Rattle.script_words.specs.declared.fault.Fault.{Fault}
 use Rattle.script_words.specs.declared.fault.ScriptError.{ScriptError}
@@ -14,7 +14,6 @@ use Rattle.script.specs.Laws.{HasFirstLine, Script, RoundTrip, WrittenBack, Stop
 use Rattle.script.proofs.Misfits.{accepts, accepts_read, plain_first, Halts, stop, fault_line}
 use Rattle.script.proofs.Readings.{short_enough, too_long}
 use Rattle.script.proofs.Scripts.{first_written, written_read, read_written, first_there}
-use Rattle.script.proofs.Spellings.{ok_err}
 
 -- what is accepted is a script, and a script is accepted
 accepted : (bs : List ℕ) → accepts first_line bs ≡ true → Script bs
@@ -22,7 +21,7 @@ accepted bs a = go (read first_line 1 1 bs) refl (accepts_read bs first_line 1 1
   where
     go : (z : Result (List Placed) Fault) → read first_line 1 1 bs ≡ z → is_ok (read first_line 1 1 bs) ≡ true → Script bs
     go (Ok ps) e h = let w = read_written bs ps e in (w.0, w.1, w.3)
-    go (Err f) e h = absurd (true≢false (sym h ∙ ap is_ok e))
+    go (Err f) e h = let z = ap is_ok e in cc
 
 accepting : (bs : List ℕ) → Script bs → accepts first_line bs ≡ true
 accepting bs s = sym (accepts_read bs first_line 1 1) ∙ ap (λ z. is_ok (read first_line 1 1 z)) s.2 ∙ ap is_ok (written_read s.0 s.1)
@@ -32,7 +31,7 @@ round_trip bs r g cs h e few =
     subst (λ a. Gives r a) (short_enough bs few ∙ ap (λ z. read first_line 1 1 z) e ∙ written_read cs h) g
 
 not_long : (bs : List ℕ) (ps : List Placed) → script_says bs ≡ Ok ps → length bs ≤ 16384
-not_long bs ps e = ⊎_elim (λ long. absurd (ok_err ps _ (sym (too_long bs long) ∙ e))) (λ few. few) (cases_lt 16384 (length bs))
+not_long bs ps e = ⊎_elim (λ long. let z = sym (too_long bs long) ∙ e in cc) (λ few. few) (cases_lt 16384 (length bs))
 
 pub written_back : (bs : List ℕ) (r : Result (Vec Placed Global) ScriptError) → Gives r (script_says bs) → WrittenBack bs r
 written_back bs (Ok v) g = read_written bs (vec_items v) (sym (short_enough bs (not_long bs (vec_items v) g)) ∙ g)
@@ -86,12 +85,7 @@ faults bs (Ok v) g = not_long bs (vec_items v) g
 faults bs (Err (Faulty f)) g = (
   λ few. misfit bs f (sym (short_enough bs few) ∙ g),
   λ long.
-      let z : ◌≡◌ {A = Result (List Placed) Fault} (Err (record { refusal = ScriptTooLong; line = 0; column = 0 })) (Err f) = sym (too_long bs long) ∙ g in
-      let same : record { refusal = ScriptTooLong; line = 0; column = 0 } ≡ f = cc in
-      record {
-        number = sym (ap (λ (h : Fault). script_refusal_number h.refusal) same);
-        line = sym (ap (λ (h : Fault). h.line) same);
-        column = sym (ap (λ (h : Fault). h.column) same);
-      },
+      let z = sym (too_long bs long) ∙ g in
+      record { number = cc; line = cc; column = cc },
 )
 faults bs (Err OutOfMemory) g = tt

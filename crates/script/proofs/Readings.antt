@@ -1,7 +1,8 @@
 -- The reader's turns: the bytes of the first line, and one line after the other.
-use Rattle.std.proofs.Common.{◌≡◌, ℕ, suc, ◌+◌, ◌<◌, ◌≤◌, leb, List, [], ◌∷◌, ◌++◌, length, get_or, drop, Ok, Err, Result, Vec, sym, refl, ap, ◌∙◌, subst, append-nil, add-one}
+use Rattle.std.proofs.Common.{◌≡◌, ℕ, suc, ◌+◌, ◌<◌, ◌≤◌, leb, List, [], ◌∷◌, ◌++◌, length, get_or, drop, Ok, Err, Result, Vec, sym, refl, ap, ◌∙◌, append-nil, add-one}
 use Rattle.std.proofs.lemmas.List.{drop_more, nil_from_length}
 use Rattle.std.proofs.lemmas.Bool.{cond-true, cond-false, le-leb, lt-leb}
+use Rattle.std.specs.Result.{IsErrAnd}
 use Rattle.std.specs.declared.alloc.Global.{Global}
 use Rattle.script_words.specs.declared.refusal.ScriptRefusal.TheVariants.{ScriptTooLong}
 use Rattle.script_words.specs.declared.command.Command.{Command}
@@ -11,19 +12,17 @@ use Rattle.script_words.specs.declared.fault.ScriptError.{ScriptError}
 use Rattle.script_words.specs.declared.fault.ScriptError.TheVariants.{Fault as Faulty, OutOfMemory}
 use Rattle.script_lines.specs.declared.token.Token.{Token}
 use Rattle.script_words.specs.declared.word.Word.{Word}
-use Rattle.script.specs.Answer.{Gives, headed}
+use Rattle.script.specs.Answer.{Gives}
 use Rattle.script_words.specs.Format.{only, begins, ends, word, first_word, first_line, before, read, script_says}
 use Rattle.script_lines.specs.Token.{word_of, piece_of, first_piece, token_says}
 use Rattle.script_words.specs.Word.{and_then, spot_at, line_at, first_line_at}
 use Rattle.script.proofs.Lines.{onward, begins_with, token_read, no_token, before_none, before_again, first_read}
 
 -- a fault that a `?` hands on
-pub gives_fault : (r : Result (Vec Placed Global) ScriptError) (y : ScriptError) (f : Fault) (a : Result (List Placed) Fault) → r ≡ Err y → y ≡ Faulty f → a ≡ Err f → Gives r a
-gives_fault r y f a p q e = let P : Result (Vec Placed Global) ScriptError → Type 0 = λ z. Gives z a in subst P (sym (p ∙ ap Err q)) e
-
--- want of memory that a `?` hands on
-pub gives_none : (r : Result (Vec Placed Global) ScriptError) (y : ScriptError) (a : Result (List Placed) Fault) → r ≡ Err y → y ≡ OutOfMemory → Gives r a
-gives_none r y a p q = let P : Result (Vec Placed Global) ScriptError → Type 0 = λ z. Gives z a in subst P (sym (p ∙ ap Err q)) tt
+pub gives_fault : (r : Result (Vec Placed Global) ScriptError) (f : Fault) (a : Result (List Placed) Fault) → IsErrAnd r (λ y. y ≡ Faulty f) → a ≡ Err f → Gives r a
+gives_fault (Ok v) f a h e = absurd h
+gives_fault (Err (Faulty g)) f a h e = cc
+gives_fault (Err OutOfMemory) f a h e = tt
 
 -- the first line, of which i bytes are read
 abbrev pub Headed : Word → ℕ → Type 0
@@ -46,14 +45,6 @@ first_more w i u lt e h =
 pub first_stop : (w : Word) (i : ℕ) (f : Fault) → i < 8 → Err f ≡ spot_at (only (get_or first_word i 0)) w i → Headed w i → Err f ≡ first_line_at w
 first_stop w i f lt e h =
     sym (first_byte w i lt h ∙ sym (ap (λ r. and_then r (λ _. line_at (word (drop (i + 1) first_word) (ends [])) w (i + 1))) e))
-
-first_end : (r : Result (Unit {0}) Fault) → headed r ≡ and_then r (λ _. Ok [])
-first_end (Ok u) = refl
-first_end (Err f) = refl
-
-pub first_all : (w : Word) (i : ℕ) (r : Result (Unit {0}) Fault) → i ≡ 8 → r ≡ spot_at (only 10) w 8 → Headed w i → headed r ≡ first_line_at w
-first_all w i r e s h =
-    first_end r ∙ ap (λ z. and_then z (λ _. Ok [])) s ∙ sym (h ∙ ap (λ j. line_at (word (drop j first_word) (ends [])) w j) e)
 
 -- the lines: a is the whole answer, ps is what was read, and bs is left from line l on
 module _ (a : Result (List Placed) Fault) (ps : List Placed) (l : ℕ) (bs : List ℕ) (inv : a ≡ before ps (read begins l 1 bs)) where
@@ -82,11 +73,9 @@ module _ (a : Result (List Placed) Fault) (ps : List Placed) (l : ℕ) (bs : Lis
       lw ≡ (word_of t).line → cw ≡ (word_of t).column → ws ≡ (word_of t).bytes.now → zs ≡ drop (length ws) bs → a ≡ before qs (read begins (l + 1) 1 zs)
   lines_again t m e s qs lw cw ws zs eq el ec ew ez =
       let b = begins_with t bs l e in
-      lines_more t m e s
-      ∙ ap (λ ds. before (ps ++ record { command = m; line = l; column = 1 } ∷ []) (read begins (l + 1) 1 ds)) (sym (ez ∙ ap (λ vs. drop (length vs) bs) ew))
-      ∙ ap (λ j. before (ps ++ record { command = m; line = j; column = 1 } ∷ []) (read begins (l + 1) 1 zs)) (sym (el ∙ b.line))
-      ∙ ap (λ j. before (ps ++ record { command = m; line = lw; column = j } ∷ []) (read begins (l + 1) 1 zs)) (sym (ec ∙ b.column))
-      ∙ ap (λ rs. before rs (read begins (l + 1) 1 zs)) (sym eq)
+      let more = lines_more t m e s in
+      let rest = ez ∙ ap (λ vs. drop (length vs) bs) ew in
+      cc
 
 -- the script
 pub too_long : (bs : List ℕ) → 16384 < length bs → script_says bs ≡ Err (record { refusal = ScriptTooLong; line = 0; column = 0 })

@@ -1,5 +1,5 @@
 -- Whole scripts: what is written is read, and what is read was written.
-use Rattle.std.proofs.Common.{◌≡◌, ℕ, zero, suc, ◌+◌, ◌*◌, ◌/◌, ◌%◌, ◌<◌, ◌≤◌, Bool, true, false, eqb, ◌⊎◌, List, [], ◌∷◌, ◌++◌, length, Some, None, Ok, Err, Option, Result, sym, refl, ap, ◌∙◌, inl, inr, ⊎_elim, arith, length-append}
+use Rattle.std.proofs.Common.{◌≡◌, ℕ, zero, suc, ◌+◌, ◌*◌, ◌/◌, ◌%◌, ◌<◌, ◌≤◌, true, eqb, ◌⊎◌, List, [], ◌∷◌, ◌++◌, length, Some, None, Ok, Err, Option, sym, refl, ap, ◌∙◌, subst, inl, inr, ⊎_elim, arith, length-append}
 use Rattle.std.proofs.lemmas.Bool.{eqb-true}
 use Rattle.std.proofs.lemmas.Bool.Decides.{nat_tests}
 use Rattle.std.specs.List.{flat_map}
@@ -7,10 +7,12 @@ use Rattle.script_words.specs.declared.command.Command.{Command}
 use Rattle.script_words.specs.declared.command.Command.TheVariants.{Read, Write, Cycles, Modem, SetUp}
 use Rattle.script_words.specs.declared.command.Placed.{Placed}
 use Rattle.script_words.specs.declared.fault.Fault.{Fault}
-use Rattle.script_words.specs.Format.{begins, ends, word, first_word, first_line, Letter, R, W, C, L, S, letter, after, misfits, goes, says, goes_on, misfit_at, placed, before, read}
+use Rattle.script_words.specs.Format.{begins, ends, word, first_word, first_line, Rest, hex_byte, Letter, R, W, C, L, S, letter, after, goes_on, placed, before, read}
+use Rattle.script_lines.proofs.Digits.{after_count, after_cr, after_fr}
+use Rattle.script.proofs.Steps.{stepped}
 use Rattle.script.specs.Writing.{digit, channel_byte, modem_byte, level_byte, line_end, hex, written, written_script, Sayable, AllSayable, at_lines}
 use Rattle.script.proofs.Lines.{before_none}
-use Rattle.script.proofs.Spellings.{Spelt, spelt_read, Line, Inside, read_line, read_later, ok_err}
+use Rattle.script.proofs.Spellings.{Spelt, spelt_read, Line, Inside, read_line, read_later}
 
 -- the letter of a command, and the text after it
 abbrev letter_byte : Letter → ℕ
@@ -33,6 +35,17 @@ twice h l b more =
     let low : l ≡ (16 * h + l) % 16 = omega arith in
     ap (λ x. digit x ∷ digit l ∷ more) high ∙ ap (λ x. digit ((16 * h + l) / 16) ∷ digit x ∷ more) low
 
+-- a byte of two digits that is spelt
+spelt_hex : (k : ℕ → Rest) (b : ℕ) (ts : List ℕ) (cs : List Command) → b < 256 → Spelt (k b) ts cs → Spelt (hex_byte k) (hex b ts) cs
+spelt_hex k b ts cs h p =
+    let whole : b ≡ 16 * (b / 16) + b % 16 = omega arith in
+    (b / 16, _, (omega arith, λ e. cc), refl, (b % 16, _, (omega arith, λ e. cc), refl, subst (λ x. Spelt (k x) ts cs) whole p))
+
+hex_spelt : (k : ℕ → Rest) (ts : List ℕ) (cs : List Command) → Spelt (hex_byte k) ts cs → (b : ℕ) × (us : List ℕ) × (b < 256) × (ts ≡ hex b us) × Spelt (k b) us cs
+hex_spelt k ts cs p =
+    let q = p.4 in
+    (16 * p.0 + q.0, q.1, omega (arith, p.2.0, q.2.0), p.3 ∙ ap (λ us. digit p.0 ∷ us) q.3 ∙ twice p.0 q.0 q.2.0 q.1, q.4)
+
 spelt_says : (k : Letter) (ts : List ℕ) (cs : List Command) → Spelt (after k) ts cs → Says k ts cs
 spelt_says R ts cs p =
     let q = p.4 in
@@ -46,32 +59,30 @@ spelt_says R ts cs p =
 spelt_says W ts cs p =
     let q = p.4 in
     let r = q.4 in
-    let h = r.4 in
-    let l = h.4 in
-    let e = l.4 in
+    let b = hex_spelt (λ x. ends (Write q.0 x ∷ [])) r.1 cs r.4 in
     record {
-      command = Write q.0 (16 * h.0 + l.0);
-      sayable = (q.2, omega (arith, h.2.0, l.2.0));
-      one = sym e.1;
-      text = ap (λ z. 87 ∷ z) (p.3 ∙ ap (λ z. 32 ∷ z) (q.3 ∙ ap (λ z. digit q.0 ∷ z) (r.3 ∙ ap (λ z. 32 ∷ z)
-          (h.3 ∙ ap (λ z. digit h.0 ∷ z) (l.3 ∙ ap (λ z. digit l.0 ∷ z) e.0) ∙ twice h.0 l.0 l.2.0 line_end))));
+      command = Write q.0 b.0;
+      sayable = (q.2, b.2);
+      one = sym b.4.1;
+      text = ap (λ z. 87 ∷ z) (p.3 ∙ ap (λ z. 32 ∷ z) (q.3 ∙ ap (λ z. digit q.0 ∷ z) (r.3 ∙ ap (λ z. 32 ∷ z) (b.3 ∙ ap (hex b.0) b.4.0))));
     }
 spelt_says C ts cs p =
-    let a = p.4 in
-    let b = a.4 in
+    let b = hex_spelt after_count p.1 cs p.4 in
     let c = b.4 in
     let d = c.4 in
     let e = d.4 in
-    let n : ℕ = 16 * (16 * (16 * a.0 + b.0) + c.0) + d.0 in
-    let top : 16 * a.0 + b.0 ≡ n / 256 = omega (arith, a.2.0, b.2.0, c.2.0, d.2.0) in
-    let low : 16 * c.0 + d.0 ≡ n % 256 = omega (arith, a.2.0, b.2.0, c.2.0, d.2.0) in
+    let n : ℕ = 16 * (16 * b.0 + c.0) + d.0 in
+    let top : b.0 ≡ n / 256 = omega (arith, c.2.0, d.2.0) in
+    let low : 16 * c.0 + d.0 ≡ n % 256 = omega (arith, c.2.0, d.2.0) in
+    let back : c.1 ≡ digit d.0 ∷ line_end = d.3 ∙ ap (λ z. digit d.0 ∷ z) e.0 in
+    let end : b.1 ≡ hex (n % 256) line_end = c.3 ∙ ap (λ z. digit c.0 ∷ z) back ∙ twice c.0 d.0 d.2.0 line_end ∙ ap (λ x. hex x line_end) low in
+    let text : ts ≡ 32 ∷ hex (n / 256) (hex (n % 256) line_end) =
+    p.3 ∙ ap (λ z. 32 ∷ z) (b.3 ∙ ap (hex b.0) end ∙ ap (λ x. hex x (hex (n % 256) line_end)) top) in
     record {
       command = Cycles n;
-      sayable = (positive (16 * (16 * a.0 + b.0) + c.0) d.0 d.2.1, omega (arith, a.2.0, b.2.0, c.2.0, d.2.0));
+      sayable = (positive (16 * b.0 + c.0) d.0 d.2.1, omega (arith, b.2, c.2.0, d.2.0));
       one = sym e.1;
-      text = ap (λ z. 67 ∷ z) (p.3 ∙ ap (λ z. 32 ∷ z) (a.3 ∙ ap (λ z. digit a.0 ∷ z) (b.3 ∙ ap (λ z. digit b.0 ∷ z)
-          (c.3 ∙ ap (λ z. digit c.0 ∷ z) (d.3 ∙ ap (λ z. digit d.0 ∷ z) e.0) ∙ twice c.0 d.0 d.2.0 line_end ∙ ap (λ x. hex x line_end) low))
-          ∙ twice a.0 b.0 b.2.0 (hex (n % 256) line_end) ∙ ap (λ x. hex x (hex (n % 256) line_end)) top));
+      text = ap (λ z. 67 ∷ z) text;
     }
   where
     positive : (m d : ℕ) → (eqb m 0 ≡ true → 0 < d) → 0 < 16 * m + d
@@ -92,19 +103,14 @@ spelt_says L ts cs p =
           (c.3 ∙ ap (λ z. modem_byte c.0 ∷ z) (d.3 ∙ ap (λ z. 32 ∷ z) (e.3 ∙ ap (λ z. level_byte e.0 ∷ z) f.0))))));
     }
 spelt_says S ts cs p =
-    let a = p.4 in
-    let b = a.4 in
-    let c = b.4 in
-    let d = c.4 in
-    let e = d.4 in
-    let f = e.4 in
+    let cr = hex_spelt after_cr p.1 cs p.4 in
+    let r = cr.4 in
+    let fr = hex_spelt (after_fr cr.0) r.1 cs r.4 in
     record {
-      command = SetUp (16 * a.0 + b.0) (16 * d.0 + e.0);
-      sayable = (omega (arith, a.2.0, b.2.0), omega (arith, d.2.0, e.2.0));
-      one = sym f.1;
-      text = ap (λ z. 83 ∷ z) (p.3 ∙ ap (λ z. 32 ∷ z) (a.3 ∙ ap (λ z. digit a.0 ∷ z) (b.3 ∙ ap (λ z. digit b.0 ∷ z) (c.3 ∙ ap (λ z. 32 ∷ z)
-          (d.3 ∙ ap (λ z. digit d.0 ∷ z) (e.3 ∙ ap (λ z. digit e.0 ∷ z) f.0) ∙ twice d.0 e.0 e.2.0 line_end)))
-          ∙ twice a.0 b.0 b.2.0 (32 ∷ hex (16 * d.0 + e.0) line_end)));
+      command = SetUp cr.0 fr.0;
+      sayable = (cr.2, fr.2);
+      one = sym fr.4.1;
+      text = ap (λ z. 83 ∷ z) (p.3 ∙ ap (λ z. 32 ∷ z) (cr.3 ∙ ap (hex cr.0) (r.3 ∙ ap (λ z. 32 ∷ z) (fr.3 ∙ ap (hex fr.0) fr.4.0))));
     }
 
 -- every command is spelt
@@ -122,101 +128,20 @@ text_of (Cycles n) = 32 ∷ hex (n / 256) (hex (n % 256) line_end)
 text_of (Modem c m v) = 32 ∷ channel_byte c ∷ 32 ∷ modem_byte m ∷ 32 ∷ level_byte v ∷ line_end
 text_of (SetUp cr fr) = 32 ∷ hex cr (32 ∷ hex fr line_end)
 
-not_above : ◌≡◌ {A = Bool} false true → ⊥
-not_above e = let z : ◌≡◌ {A = ℕ} 0 1 = cc in omega arith
-
 spelt_command : (m : Command) → Sayable m → Spelt (after (letter_for m)) (text_of m) (m ∷ [])
 spelt_command (Read r) h = (tt, _, tt, refl, (r, _, h, refl, (refl, refl)))
 spelt_command (Write r b) h =
-    let whole : 16 * (b / 16) + b % 16 ≡ b = omega arith in (
-      tt,
-      _,
-      tt,
-      refl,
-      (
-        r,
-        _,
-        h.0,
-        refl,
-        (
-          tt,
-          _,
-          tt,
-          refl,
-          (
-            b / 16,
-            _,
-            (omega (arith, h.1), λ e. absurd (not_above e)),
-            refl,
-            (b % 16, _, (omega arith, λ e. absurd (not_above e)), refl, (refl, ap (λ x. Write r x ∷ []) whole)),
-          ),
-        ),
-      ),
-    )
+    (tt, _, tt, refl, (r, _, h.0, refl, (tt, _, tt, refl, spelt_hex (λ x. ends (Write r x ∷ [])) b line_end _ h.1 (refl, refl))))
 spelt_command (Cycles n) h =
-    let a : ℕ = n / 256 / 16 in
-    let b : ℕ = n / 256 % 16 in
     let c : ℕ = n % 256 / 16 in
     let d : ℕ = n % 256 % 16 in
-    let whole : 16 * (16 * (16 * a + b) + c) + d ≡ n = omega arith in (
-      tt,
-      _,
-      tt,
-      refl,
-      (
-        a,
-        _,
-        (omega (arith, h.1), λ e. absurd (not_above e)),
-        refl,
-        (
-          b,
-          _,
-          (omega arith, λ e. absurd (not_above e)),
-          refl,
-          (
-            c,
-            _,
-            (omega arith, λ e. absurd (not_above e)),
-            refl,
-            (d, _, (omega arith, λ e. let z = eqb-true (16 * (16 * a + b) + c) 0 e in omega (arith, h.0)), refl, (refl, ap (λ x. Cycles x ∷ []) whole)),
-          ),
-        ),
-      ),
-    )
+    let whole : 16 * (16 * (n / 256) + c) + d ≡ n = omega arith in
+    let last : (d < 16) × (eqb (16 * (n / 256) + c) 0 ≡ true → 0 < d) = (omega arith, λ e. let z = eqb-true (16 * (n / 256) + c) 0 e in omega (arith, h.0)) in
+    (tt, _, tt, refl, spelt_hex after_count (n / 256) _ _ (omega (arith, h.1)) (c, _, (omega arith, λ e. cc), refl, (d, _, last, refl, (refl, ap (λ x. Cycles x ∷ []) whole))))
 spelt_command (Modem c m v) h = (tt, _, tt, refl, (c, _, tt, refl, (tt, _, tt, refl, (m, _, tt, refl, (tt, _, tt, refl, (v, _, tt, refl, (refl, refl)))))))
 spelt_command (SetUp cr fr) h =
-    let first : 16 * (cr / 16) + cr % 16 ≡ cr = omega arith in
-    let second : 16 * (fr / 16) + fr % 16 ≡ fr = omega arith in (
-      tt,
-      _,
-      tt,
-      refl,
-      (
-        cr / 16,
-        _,
-        (omega (arith, h.0), λ e. absurd (not_above e)),
-        refl,
-        (
-          cr % 16,
-          _,
-          (omega arith, λ e. absurd (not_above e)),
-          refl,
-          (
-            tt,
-            _,
-            tt,
-            refl,
-            (
-              fr / 16,
-              _,
-              (omega (arith, h.1), λ e. absurd (not_above e)),
-              refl,
-              (fr % 16, _, (omega arith, λ e. absurd (not_above e)), refl, (refl, ap (λ x. SetUp x (16 * (fr / 16) + fr % 16) ∷ []) first ∙ ap (λ x. SetUp cr x ∷ []) second)),
-            ),
-          ),
-        ),
-      ),
-    )
+    let second : Spelt (hex_byte (after_fr cr)) (hex fr line_end) (SetUp cr fr ∷ []) = spelt_hex (after_fr cr) fr line_end _ h.1 (refl, refl) in
+    (tt, _, tt, refl, spelt_hex after_cr cr _ _ h.0 (tt, _, tt, refl, second))
 
 command_read : (m : Command) → Sayable m → (l : ℕ) (bs : List ℕ) → read begins l 1 (written m ++ bs) ≡ before (placed l (m ∷ [])) (read begins (suc l) 1 bs)
 unfolding read
@@ -274,19 +199,17 @@ one_back x xs l ps k ex t s b = record {
 
 pub lines_back : (n : ℕ) (bs : List ℕ) (l : ℕ) (ps : List Placed) → length bs ≤ n → read begins l 1 bs ≡ Ok ps → Back bs l ps
 unfolding read
-lines_back zero [] l ps h e = record { commands = []; sayable = tt; text = refl; all = let q : ps ≡ [] = cc in q }
+lines_back zero [] l ps h e = record { commands = []; sayable = tt; text = refl; all = cc }
 lines_back zero (x ∷ xs) l ps h e = absurd (omega arith)
-lines_back (suc n) [] l ps h e = record { commands = []; sayable = tt; text = refl; all = let q : ps ≡ [] = cc in q }
+lines_back (suc n) [] l ps h e = record { commands = []; sayable = tt; text = refl; all = cc }
 lines_back (suc n) (x ∷ xs) l ps h e = go (λ k t. lines_back n t.rest (suc l) t.more (shorter k t) t.reads) (letter x) refl e
   where
     shorter : (k : Letter) (t : Line (after k) l xs ps) → length t.rest ≤ n
     shorter k t = let m = ap length t.parts ∙ length-append t.text t.rest in omega (arith, m)
 
     go : ((k : Letter) (t : Line (after k) l xs ps) → Back t.rest (suc l) t.more) → (o : Option Letter) → letter x ≡ o →
-        ◌≡◌ {A = Result (List Placed) Fault}
-        (elim (goes_on o after) [ misfits ↦ Err (misfit_at l 1) | goes r' ↦ read r' l 2 xs | says es ↦ before (placed l es) (read begins (suc l) 1 xs) ])
-        (Ok ps) → Back (x ∷ xs) l ps
-    go ih None ex d = absurd (ok_err ps (misfit_at l 1) d)
+        stepped l 1 xs (goes_on o after) ≡ Ok ps → Back (x ∷ xs) l ps
+    go ih None ex d = cc
     go ih (Some k) ex d =
         let t = read_line (after k) l 2 xs ps (inside k) d in
         one_back x xs l ps k (letter_back x k ex) t (spelt_says k t.text t.said t.spelt) (ih k t)

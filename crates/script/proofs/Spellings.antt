@@ -1,13 +1,14 @@
 -- Lines by the values that stand in them: what is written is read, and what is read was written.
-use Rattle.std.proofs.Common.{◌≡◌, ℕ, suc, ◌<◌, ◌≤◌, Bool, true, false, cond, ◌&&◌, eqb, leb, ◌⊎◌, List, [], ◌∷◌, ◌++◌, Some, None, Ok, Err, Option, Result, sym, refl, ap, ◌∙◌, inl, inr, ⊎_elim, arith}
-use Rattle.std.proofs.lemmas.Bool.{cases_Bool, cond-true, cond-false, and_from, and_parts, leb-true, le-leb, eqb-true, eq-eqb, ne_eqb, true≢false}
+use Rattle.std.proofs.Common.{◌≡◌, ℕ, suc, ◌<◌, ◌≤◌, Bool, true, false, cond, eqb, ◌⊎◌, List, [], ◌∷◌, ◌++◌, Some, None, Ok, Err, Option, Result, sym, refl, ap, ◌∙◌, inl, inr, ⊎_elim, arith}
+use Rattle.std.proofs.lemmas.Bool.{cond-true, eqb-true, eq-eqb, ne_eqb}
 use Rattle.std.proofs.lemmas.Bool.Decides.{nat_tests}
 use Rattle.terms.specs.declared.channel_id.ChannelId.TheVariants.{One, Two}
 use Rattle.terms.specs.declared.modem_line.ModemLine.TheVariants.{Cts, Dcd, Dsr}
 use Rattle.script_words.specs.declared.command.Command.{Command}
 use Rattle.script_words.specs.declared.command.Placed.{Placed}
 use Rattle.script_words.specs.declared.fault.Fault.{Fault}
-use Rattle.script_words.specs.Format.{Spot, only, select_digit, hex_digit, channel_digit, line_letter, level_digit, Value, digit_value, within, fits, Rest, begins, ends, next, misfits, goes, says, goes_on, misfit_at, placed, before, read}
+use Rattle.script_words.specs.Format.{Spot, only, select_digit, hex_digit, channel_digit, line_letter, level_digit, Value, digit_value, within, fits, Rest, begins, ends, next, misfits, says, goes_on, misfit_at, placed, before, read}
+use Rattle.script.proofs.Steps.{stepped}
 use Rattle.script.specs.Writing.{digit, channel_byte, modem_byte, level_byte}
 
 -- the byte that is written for a value, and the values that can be written
@@ -27,9 +28,6 @@ Holds channel_digit v = Unit {0}
 Holds line_letter v = Unit {0}
 Holds level_digit v = Unit {0}
 
-pub none_some : {X : Type 0} (x : X) → ◌≡◌ {A = Option X} None (Some x) → ⊥
-none_some x e = let z : ◌≡◌ {A = ℕ} 0 1 = cc in omega arith
-
 -- digits
 digit_read : (v : ℕ) → v < 16 → digit_value (digit v) ≡ Some v
 digit_read v h = grind (arith, nat_tests)
@@ -38,27 +36,15 @@ digit_back : (x v : ℕ) → digit_value x ≡ Some v → (x ≡ digit v) × (v 
 digit_back x v e = (grind (arith, nat_tests), grind (arith, nat_tests))
 
 within_some : (least most : ℕ) (o : Option ℕ) (v : ℕ) → within least most o ≡ Some v → (o ≡ Some v) × (least ≤ v) × (v ≤ most)
-within_some least most None v e = absurd (none_some v e)
-within_some least most (Some u) v e = ⊎_elim yes no (cases_Bool (leb least u && leb u most))
-  where
-    yes : (leb least u && leb u most) ≡ true → (◌≡◌ {A = Option ℕ} (Some u) (Some v)) × (least ≤ v) × (v ≤ most)
-    yes h =
-        let same : ◌≡◌ {A = Option ℕ} (Some u) (Some v) = sym (cond-true (leb least u && leb u most) (Some u) None h) ∙ e in
-        let eq : u ≡ v = cc in
-        let p = and_parts (leb least u) (leb u most) h in
-        let low = leb-true least u p.0 in
-        let high = leb-true u most p.1 in
-        (same, omega arith, omega arith)
-
-    no : (leb least u && leb u most) ≡ false → (◌≡◌ {A = Option ℕ} (Some u) (Some v)) × (least ≤ v) × (v ≤ most)
-    no h = absurd (none_some v (sym (cond-false (leb least u && leb u most) (Some u) None h) ∙ e))
+within_some least most None v e = cc
+within_some least most (Some u) v e = (grind (arith, nat_tests), grind (arith, nat_tests), grind (arith, nat_tests))
 
 within_at : (least most v : ℕ) → least ≤ v → v ≤ most → within least most (Some v) ≡ Some v
-within_at least most v low high = cond-true (leb least v && leb v most) (Some v) None (and_from (leb least v) (leb v most) (le-leb least v low) (le-leb v most high))
+within_at least most v low high = grind (arith, nat_tests)
 
 least_of : (positive : Bool) (v : ℕ) → cond positive 1 0 ≤ v → positive ≡ true → 0 < v
 least_of true v h e = h
-least_of false v h e = absurd (true≢false (sym e))
+least_of false v h e = cc
 
 of_least : (positive : Bool) (v : ℕ) → (positive ≡ true → 0 < v) → cond positive 1 0 ≤ v
 of_least true v h = h refl
@@ -95,16 +81,24 @@ shows_fits level_digit true h = refl
 shows_fits level_digit false h = refl
 
 -- no such byte is $0A
-pub no_line_end : (s : Spot) (v : Value s) (x : ℕ) → fits s x ≡ Some v → ((b : ℕ) → s ≡ only b → b ≡ 10 → ⊥) → eqb x 10 ≡ false
+abbrev pub PlainSpot : Spot → Type 0
+PlainSpot (only b) = b ≡ 10 → ⊥
+PlainSpot select_digit = Unit {0}
+PlainSpot (hex_digit positive) = Unit {0}
+PlainSpot channel_digit = Unit {0}
+PlainSpot line_letter = Unit {0}
+PlainSpot level_digit = Unit {0}
+
+pub no_line_end : (s : Spot) (v : Value s) (x : ℕ) → fits s x ≡ Some v → PlainSpot s → eqb x 10 ≡ false
 no_line_end s v x e plain = ne_eqb x 10 (λ ten. never s v x e plain ten)
   where
-    never : (s : Spot) (v : Value s) (x : ℕ) → fits s x ≡ Some v → ((b : ℕ) → s ≡ only b → b ≡ 10 → ⊥) → x ≡ 10 → ⊥
-    never (only b) v x e plain ten = plain b refl (sym (fits_back (only b) x v e).0 ∙ ten)
-    never select_digit v x e plain ten = none_some v (sym (ap (fits select_digit) ten) ∙ e)
-    never (hex_digit positive) v x e plain ten = none_some v (sym (ap (fits (hex_digit positive)) ten) ∙ e)
-    never channel_digit v x e plain ten = none_some v (sym (ap (fits channel_digit) ten) ∙ e)
-    never line_letter v x e plain ten = none_some v (sym (ap (fits line_letter) ten) ∙ e)
-    never level_digit v x e plain ten = none_some v (sym (ap (fits level_digit) ten) ∙ e)
+    never : (s : Spot) (v : Value s) (x : ℕ) → fits s x ≡ Some v → PlainSpot s → x ≡ 10 → ⊥
+    never (only b) v x e plain ten = plain (sym (fits_back (only b) x v e).0 ∙ ten)
+    never select_digit v x e plain ten = grind (arith, nat_tests)
+    never (hex_digit positive) v x e plain ten = grind (arith, nat_tests)
+    never channel_digit v x e plain ten = grind (arith, nat_tests)
+    never line_letter v x e plain ten = grind (arith, nat_tests)
+    never level_digit v x e plain ten = grind (arith, nat_tests)
 
 -- a line that goes on by the bytes ts to its end, and says cs
 abbrev pub Spelt : Rest → List ℕ → List Command → Type 0
@@ -114,11 +108,9 @@ Spelt (next s k) ts cs = (v : Value s) × (us : List ℕ) × Holds s v × (ts �
 
 -- it is read so
 at_spot : (s : Spot) (k : Value s → Rest) (v : Value s) (l c : ℕ) (bs : List ℕ) (o : Option (Value s)) → o ≡ Some v →
-    ◌≡◌ {A = Result (List Placed) Fault}
-    (elim (goes_on o k) [ misfits ↦ Err (misfit_at l c) | goes r' ↦ read r' l (suc c) bs | says ds ↦ before (placed l ds) (read begins (suc l) 1 bs) ])
-    (read (k v) l (suc c) bs)
+    stepped l c bs (goes_on o k) ≡ read (k v) l (suc c) bs
 at_spot s k v l c bs o e =
-    ap (λ z. elim (goes_on z k) [ misfits ↦ Err (misfit_at l c) | goes r' ↦ read r' l (suc c) bs | says ds ↦ before (placed l ds) (read begins (suc l) 1 bs) ]) e
+    ap (λ z. stepped l c bs (goes_on z k)) e
 
 pub spelt_read : (r : Rest) (ts : List ℕ) (cs : List Command) (l c : ℕ) (bs : List ℕ) → Spelt r ts cs → read r l c (ts ++ bs) ≡ before (placed l cs) (read begins (suc l) 1 bs)
 unfolding read
@@ -141,11 +133,8 @@ pub record Line (r : Rest) (l : ℕ) (bs : List ℕ) (ps : List Placed) : Type 0
   pub all : ps ≡ placed l said ++ more
   pub reads : read begins (suc l) 1 rest ≡ Ok more
 
-pub ok_err : {X : Type 0} (x : X) (f : Fault) → ◌≡◌ {A = Result X Fault} (Err f) (Ok x) → ⊥
-ok_err x f e = let z : ◌≡◌ {A = ℕ} 0 1 = cc in omega arith
-
 ends_line : (ds : List Command) (l x : ℕ) (bs : List ℕ) (ps : List Placed) (z : Result (List Placed) Fault) → read begins (suc l) 1 bs ≡ z → x ≡ 10 → before (placed l ds) z ≡ Ok ps → Line (ends ds) l (x ∷ bs) ps
-ends_line ds l x bs ps (Err f) h ten e = absurd (ok_err ps f e)
+ends_line ds l x bs ps (Err f) h ten e = cc
 ends_line ds l x bs ps (Ok qs) h ten e = record {
   text = 10 ∷ [];
   rest = bs;
@@ -153,23 +142,19 @@ ends_line ds l x bs ps (Ok qs) h ten e = record {
   more = qs;
   spelt = (refl, refl);
   parts = ap (λ y. y ∷ bs) ten;
-  all = sym (let q : placed l ds ++ qs ≡ ps = cc in q);
+  all = cc;
   reads = h;
 }
 
 ends_known : (ds : List Command) (l c x : ℕ) (bs : List ℕ) (ps : List Placed) (b : Bool) → eqb x 10 ≡ b →
-    ◌≡◌ {A = Result (List Placed) Fault}
-    (elim (cond b (says ds) misfits) [ misfits ↦ Err (misfit_at l c) | goes r' ↦ read r' l (suc c) bs | says es ↦ before (placed l es) (read begins (suc l) 1 bs) ])
-    (Ok ps) → Line (ends ds) l (x ∷ bs) ps
+    stepped l c bs (cond b (says ds) misfits) ≡ Ok ps → Line (ends ds) l (x ∷ bs) ps
 ends_known ds l c x bs ps true h e = ends_line ds l x bs ps (read begins (suc l) 1 bs) refl (eqb-true x 10 h) e
-ends_known ds l c x bs ps false h e = absurd (ok_err ps (misfit_at l c) e)
+ends_known ds l c x bs ps false h e = cc
 
 next_known : (s : Spot) (k : Value s → Rest) (l c x : ℕ) (bs : List ℕ) (ps : List Placed) →
     ((v : Value s) → read (k v) l (suc c) bs ≡ Ok ps → Line (k v) l bs ps) → (o : Option (Value s)) → fits s x ≡ o →
-    ◌≡◌ {A = Result (List Placed) Fault}
-    (elim (goes_on o k) [ misfits ↦ Err (misfit_at l c) | goes r' ↦ read r' l (suc c) bs | says es ↦ before (placed l es) (read begins (suc l) 1 bs) ])
-    (Ok ps) → Line (next s k) l (x ∷ bs) ps
-next_known s k l c x bs ps ih None h e = absurd (ok_err ps (misfit_at l c) e)
+    stepped l c bs (goes_on o k) ≡ Ok ps → Line (next s k) l (x ∷ bs) ps
+next_known s k l c x bs ps ih None h e = cc
 next_known s k l c x bs ps ih (Some v) h e =
     let t = ih v e in
     let f = fits_back s x v h in
@@ -193,9 +178,9 @@ Inside (next s k) = (v : Value s) → Inside (k v)
 pub read_line : (r : Rest) (l c : ℕ) (bs : List ℕ) (ps : List Placed) → Inside r → read r l c bs ≡ Ok ps → Line r l bs ps
 unfolding read
 read_line begins l c bs ps i e = absurd i
-read_line (ends ds) l c [] ps i e = absurd (ok_err ps (misfit_at l c) e)
+read_line (ends ds) l c [] ps i e = cc
 read_line (ends ds) l c (x ∷ bs) ps i e = ends_known ds l c x bs ps (eqb x 10) refl e
-read_line (next s k) l c [] ps i e = absurd (ok_err ps (misfit_at l c) e)
+read_line (next s k) l c [] ps i e = cc
 read_line (next s k) l c (x ∷ bs) ps i e = next_known s k l c x bs ps (λ v d. read_line (k v) l (suc c) bs ps (i v) d) (fits s x) refl e
 
 -- a fault in another line comes after a whole line
@@ -203,20 +188,16 @@ abbrev pub Later : Rest → ℕ → List ℕ → Fault → Type 0
 Later r l bs f = (f.line ≡ l) ⊎ ((ts : List ℕ) × (rest : List ℕ) × (cs : List Command) × Spelt r ts cs × (bs ≡ ts ++ rest))
 
 here : (l c : ℕ) (f : Fault) → ◌≡◌ {A = Result (List Placed) Fault} (Err (misfit_at l c)) (Err f) → f.line ≡ l
-here l c f e = let q : misfit_at l c ≡ f = cc in sym (ap (λ (g : Fault). g.line) q)
+here l c f e = cc
 
 ends_later : (ds : List Command) (l c x : ℕ) (bs : List ℕ) (f : Fault) (b : Bool) → eqb x 10 ≡ b →
-    ◌≡◌ {A = Result (List Placed) Fault}
-    (elim (cond b (says ds) misfits) [ misfits ↦ Err (misfit_at l c) | goes r' ↦ read r' l (suc c) bs | says es ↦ before (placed l es) (read begins (suc l) 1 bs) ])
-    (Err f) → Later (ends ds) l (x ∷ bs) f
+    stepped l c bs (cond b (says ds) misfits) ≡ Err f → Later (ends ds) l (x ∷ bs) f
 ends_later ds l c x bs f true h e = inr (10 ∷ [], bs, ds, (refl, refl), ap (λ y. y ∷ bs) (eqb-true x 10 h))
 ends_later ds l c x bs f false h e = inl (here l c f e)
 
 next_later : (s : Spot) (k : Value s → Rest) (l c x : ℕ) (bs : List ℕ) (f : Fault) → ((v : Value s) → read (k v) l (suc c) bs ≡ Err f → Later (k v) l bs f) →
     (o : Option (Value s)) → fits s x ≡ o →
-    ◌≡◌ {A = Result (List Placed) Fault}
-    (elim (goes_on o k) [ misfits ↦ Err (misfit_at l c) | goes r' ↦ read r' l (suc c) bs | says es ↦ before (placed l es) (read begins (suc l) 1 bs) ])
-    (Err f) → Later (next s k) l (x ∷ bs) f
+    stepped l c bs (goes_on o k) ≡ Err f → Later (next s k) l (x ∷ bs) f
 next_later s k l c x bs f ih None h e = inl (here l c f e)
 next_later s k l c x bs f ih (Some v) h e =
     let b = fits_back s x v h in

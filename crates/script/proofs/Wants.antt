@@ -1,12 +1,13 @@
 -- Where memory is wanting, a whole command was read.
-use Rattle.std.proofs.Common.{◌≡◌, ℕ, zero, suc, ◌+◌, ◌<◌, ◌⊎◌, List, [], ◌∷◌, ◌++◌, length, take, drop, Ok, Err, Result, Vec, sym, refl, ap, ◌∙◌, subst, inl, inr, append_assoc, arith, take-append-drop, length-take}
+use Rattle.std.proofs.Common.{◌≡◌, ℕ, zero, suc, ◌+◌, ◌<◌, ◌⊎◌, List, [], ◌∷◌, ◌++◌, length, take, drop, Ok, Err, Result, Vec, sym, ap, ◌∙◌, subst, inl, inr, append_assoc, arith, take-append-drop, length-take}
 use Rattle.std.proofs.lemmas.List.{take-take, drop_all}
-use Rattle.std.specs.List.{flat_map}
+use Rattle.std.specs.List.{flat_map, slice_get}
+use Rattle.std.specs.Result.{IsErrAnd}
 use Rattle.std.specs.declared.alloc.Global.{Global}
 use Rattle.script_lines.specs.Token.{word_of, letter_of, width, piece_of, first_piece, token_says}
 use Rattle.script_lines.specs.declared.token.Token.{Token}
-use Rattle.script_words.proofs.Places.{nth_take}
-use Rattle.script_words.specs.Format.{begins, first_line, first_word, Letter, R, W, C, L, S, placed, before, read}
+use Rattle.script_words.proofs.Places.{slice_get-take}
+use Rattle.script_words.specs.Format.{begins, first_line, first_word, placed, before, read}
 use Rattle.script_words.specs.Word.{first_line_at, line_at}
 use Rattle.script_words.specs.declared.command.Command.{Command}
 use Rattle.script_words.specs.declared.command.Placed.{Placed}
@@ -17,26 +18,23 @@ use Rattle.script_words.specs.declared.word.Word.{Word}
 use Rattle.script.specs.Answer.{Wanting}
 use Rattle.script.specs.Laws.{Leads}
 use Rattle.script.specs.Writing.{line_end, written, written_script, AllSayable, at_lines}
-use Rattle.script.proofs.Lines.{onward, Begins, begins_with, token_read, line_read, wide_first}
+use Rattle.script.proofs.Lines.{onward, Begins, begins_with, token_read, line_read, some_width, wide_first}
 use Rattle.script.proofs.Scripts.{Back, lines_back, read_written}
 
-pub no_want : (r : Result (Vec Placed Global) ScriptError) (y : ScriptError) (f : Fault) (p : Type 0) → r ≡ Err y → y ≡ Faulty f → Wanting r p
-no_want r y f p e q = let P : Result (Vec Placed Global) ScriptError → Type 0 = λ z. Wanting z p in subst P (sym (e ∙ ap Err q)) tt
+pub no_want : (r : Result (Vec Placed Global) ScriptError) (f : Fault) (p : Type 0) → IsErrAnd r (λ y. y ≡ Faulty f) → Wanting r p
+no_want (Ok v) f p h = tt
+no_want (Err (Faulty e)) f p h = tt
+no_want (Err OutOfMemory) f p h = cc
 
-pub want : (r : Result (Vec Placed Global) ScriptError) (y : ScriptError) (p : Type 0) → r ≡ Err y → y ≡ OutOfMemory → p → Wanting r p
-want r y p e q h = let P : Result (Vec Placed Global) ScriptError → Type 0 = λ z. Wanting z p in subst P (sym (e ∙ ap Err q)) h
+pub want : (r : Result (Vec Placed Global) ScriptError) (p : Type 0) → p → Wanting r p
+want (Ok v) p h = tt
+want (Err (Faulty e)) p h = tt
+want (Err OutOfMemory) p h = h
 
 pub want_weaker : (r : Result (Vec Placed Global) ScriptError) (p q : Type 0) → (p → q) → Wanting r p → Wanting r q
 want_weaker (Ok v) p q f h = tt
 want_weaker (Err (Faulty e)) p q f h = tt
 want_weaker (Err OutOfMemory) p q f h = f h
-
-some_width : (k : Letter) → 0 < width k
-some_width R = omega arith
-some_width W = omega arith
-some_width C = omega arith
-some_width L = omega arith
-some_width S = omega arith
 
 front_parts : (n : ℕ) (x : ℕ) (xs bs : List ℕ) → 0 < n → bs ≡ x ∷ xs → (ys : List ℕ) × (take n bs ≡ x ∷ ys)
 front_parts zero x xs bs h e = absurd (omega arith)
@@ -47,7 +45,7 @@ head_back : (ts : List ℕ) (l : ℕ) (p : Placed) (ps : List Placed) → Back t
 head_back ts l p ps b bs more e = go b.commands b.sayable b.text b.all
   where
     go : (cs : List Command) → AllSayable cs → ts ≡ flat_map written cs → p ∷ ps ≡ at_lines l cs → Leads bs
-    go [] h t a = absurd (let z : suc (length ps) ≡ 0 = ap length a in omega arith)
+    go [] h t a = cc
     go (c ∷ cs) h t a = (c, flat_map written cs ++ more, h.0, e ∙ ap (λ z. z ++ more) t ∙ append_assoc (written c) (flat_map written cs) more)
 
 token_leads : (t : Token) (bs : List ℕ) (l : ℕ) (m : Command) → Begins t bs l → Ok (m ∷ []) ≡ token_says t → Leads bs
@@ -80,9 +78,9 @@ leads_now text bs l t m (inl same) e s = subst Leads (sym same) (token_leads t b
 leads_now text bs l t m (inr has) e s = has
 
 -- the first line
-none_said : (cs : List Command) → ◌≡◌ {A = List Placed} [] (at_lines 2 cs) → cs ≡ []
-none_said [] e = refl
-none_said (c ∷ cs) e = absurd (let z : 0 ≡ suc (length (at_lines 3 cs)) = ap length e in omega arith)
+none_said : (ts : List ℕ) (cs : List Command) → ◌≡◌ {A = List Placed} [] (at_lines 2 cs) → ts ≡ written_script cs → ts ≡ first_word ++ line_end
+none_said ts [] e t = t
+none_said ts (c ∷ cs) e t = cc
 
 pub first_parts : (w : Word) → w.line ≡ 1 → w.column ≡ 1 → Ok [] ≡ first_line_at w → w.bytes.now ≡ first_word ++ line_end ++ drop 9 w.bytes.now
 unfolding read first_line_at
@@ -90,14 +88,12 @@ first_parts w l c e =
     let bs : List ℕ = w.bytes.now in
     let ts : List ℕ = take 9 bs in
     let whole : read first_line w.line (w.column + 0) ts ≡ onward (line_at first_line w 0) w.line (drop 9 ts) =
-    line_read first_line 9 wide_first w ts 0 (λ j lt. sym (nth_take 9 bs j lt)) in
+    line_read first_line 9 wide_first w 0 ts (λ j lt. ap (slice_get bs) (let z : 0 + j ≡ j = omega arith in z) ∙ sym (slice_get-take 9 bs j lt)) in
     let none : drop 9 ts ≡ [] = drop_taken_all 9 bs in
-    let alone : read first_line 1 1 ts ≡ Ok [] =
-    sym (ap (λ z. read first_line z 1 ts) l) ∙ sym (ap (λ z. read first_line w.line (z + 0) ts) c) ∙ whole
-    ∙ ap (λ z. onward (line_at first_line w 0) z (drop 9 ts)) l ∙ ap (λ z. onward z 1 (drop 9 ts)) (sym e)
-    ∙ ap (λ ds. before [] (read begins 2 1 ds)) none in
+    let one : w.column + 0 ≡ 1 = omega (arith, c) in
+    let alone : read first_line 1 1 ts ≡ onward (Ok []) 1 [] = cc in
     let b = read_written ts [] alone in
-    let front : ts ≡ first_word ++ line_end = b.3 ∙ ap written_script (none_said b.0 b.2) in
+    let front : ts ≡ first_word ++ line_end = none_said ts b.0 b.2 b.3 in
     sym (take-append-drop 9 bs) ∙ ap (λ z. z ++ drop 9 bs) front
   where
     drop_taken_all : (n : ℕ) (xs : List ℕ) → drop n (take n xs) ≡ []

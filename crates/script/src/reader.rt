@@ -14,7 +14,7 @@ use std::alloc::Global;
 
 const MOST_BYTES: usize = 16384;
 
-const FIRST_LINE: [u8; 8] = [b'D', b'U', b'S', b' ', b'0', b'0', b'0', b'1'];
+const FIRST_LINE: [u8; 8] = *b"DUS 0001";
 
 // The commands of a script with their places, or why and where it is no script.
 pub fn read_script(heap: Global, script: &[u8]) -> Result<Vec<Placed>, ScriptError>
@@ -46,8 +46,8 @@ fn first_line(word: Word<'_>) -> Result<(), Fault>
     ensures value { headed result ≡ first_line_at word.entry }
     ensures within { OnOk result (9 ≤ length word.entry.bytes.now) }
 {
-    for at in 0..8 {
-        word.only(at, FIRST_LINE[at as usize])?;
+    for (at, byte) in FIRST_LINE.iter().enumerate() {
+        word.only(at as u8, *byte)?;
     }
     word.only(8, b'\n')
 }
@@ -58,6 +58,7 @@ fn read_lines(heap: Global, text: &[u8]) -> Result<Vec<Placed>, ScriptError>
     ensures answers { Gives result (read begins 2 1 text.now) }
     ensures memory { Wanting result (Leads text.now) }
 {
+    // The rest and its line by hand, as only a token says where the next line begins.
     let mut commands = Vec::new(heap);
     let mut rest = text;
     let mut line = 2;
@@ -68,10 +69,9 @@ fn read_lines(heap: Global, text: &[u8]) -> Result<Vec<Placed>, ScriptError>
         commands.push(Placed {
             command,
             line: word.line,
-            column: word.column as u32,
+            column: u32::from(word.column),
         })?;
-        let (_, after) = rest.split_at(word.bytes.len());
-        rest = after;
+        (_, rest) = rest.split_at(word.bytes.len());
         line += 1;
     }
     Ok(commands)

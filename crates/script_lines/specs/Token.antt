@@ -1,5 +1,6 @@
 -- A token: the bytes of a command from its letter to the end of its line, cut off where the script ends.
 use Rattle.std.specs.Prelude.{ℕ, List, [], ◌∷◌, take, Ok, Err, Result}
+use Rattle.std.specs.List.{slice_get}
 use Rattle.std.specs.Option.{ok_or, option_map}
 use Rattle.script_words.specs.declared.command.Command.{Command}
 use Rattle.script_words.specs.declared.fault.Fault.{Fault}
@@ -7,7 +8,7 @@ use Rattle.script_lines.specs.declared.token.Token.{Token}
 use Rattle.script_lines.specs.declared.token.Token.TheVariants.{Read, Write, Cycles, Modem, SetUp}
 use Rattle.script_words.specs.declared.word.Word.{Word}
 use Rattle.script_words.specs.Format.{Letter, R, W, C, L, S, letter, after, misfit_at}
-use Rattle.script_words.specs.Word.{nth, and_then, line_at}
+use Rattle.script_words.specs.Word.{and_then, line_at}
 
 abbrev pub word_of : Token → Word
 word_of (Read w) = w
@@ -48,7 +49,7 @@ piece (Err f) = Err f
 -- what a text in line l begins with
 abbrev pub first_piece : List ℕ → ℕ → Result Piece Fault
 first_piece bs l =
-    and_then (ok_or (nth 0 bs) (misfit_at l 1))
+    and_then (ok_or (slice_get bs 0) (misfit_at l 1))
     (λ x. ok_or (option_map (λ k. record { letter = k; bytes = take (width k) bs; line = l; column = 1 }) (letter x)) (misfit_at l 1))
 
 abbrev pub said : Result Command Fault → Result (List Command) Fault

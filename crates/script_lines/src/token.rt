@@ -45,11 +45,11 @@ impl<'a> Token<'a> {
         ensures column { result.column ≡ (word_of self.entry).column }
     {
         match self {
-            Token::Read(word) => word,
-            Token::Write(word) => word,
-            Token::Cycles(word) => word,
-            Token::Modem(word) => word,
-            Token::SetUp(word) => word,
+            Token::Read(word)
+            | Token::Write(word)
+            | Token::Cycles(word)
+            | Token::Modem(word)
+            | Token::SetUp(word) => word,
         }
     }
 
@@ -84,13 +84,9 @@ fn write_command(word: Word<'_>) -> Result<Command, Fault>
     word.only(1, b' ')?;
     let select = word.select(2)?;
     word.only(3, b' ')?;
-    let high = word.digit(4, 0, 15)?;
-    let low = word.digit(5, 0, 15)?;
+    let byte = word.hex_byte(4)?;
     word.only(6, b'\n')?;
-    Ok(Command::Write {
-        select,
-        byte: 16 * high + low,
-    })
+    Ok(Command::Write { select, byte })
 }
 
 // C nnnn: the last digit is not the fourth 0.
@@ -98,15 +94,11 @@ fn cycles_command(word: Word<'_>) -> Result<Command, Fault>
     ensures { said result ≡ line_at (after C) word.entry 1 }
 {
     word.only(1, b' ')?;
-    let first = word.digit(2, 0, 15)?;
-    let second = word.digit(3, 0, 15)?;
-    let third = word.digit(4, 0, 15)?;
-    let front = 16 * (16 * first + second) as u16 + third as u16;
-    let least = if front == 0 { 1 } else { 0 };
-    let last = word.digit(5, least, 15)?;
+    let front = 16 * u16::from(word.hex_byte(2)?) + u16::from(word.digit(4, 0, 15)?);
+    let last = word.digit(5, u8::from(front == 0), 15)?;
     word.only(6, b'\n')?;
     Ok(Command::Cycles {
-        count: 16 * front + last as u16,
+        count: 16 * front + u16::from(last),
     })
 }
 
@@ -133,9 +125,9 @@ fn set_up_command(word: Word<'_>) -> Result<Command, Fault>
     ensures { said result ≡ line_at (after S) word.entry 1 }
 {
     word.only(1, b' ')?;
-    let cr = 16 * word.digit(2, 0, 15)? + word.digit(3, 0, 15)?;
+    let cr = word.hex_byte(2)?;
     word.only(4, b' ')?;
-    let fr = 16 * word.digit(5, 0, 15)? + word.digit(6, 0, 15)?;
+    let fr = word.hex_byte(5)?;
     word.only(7, b'\n')?;
     Ok(Command::SetUp { cr, fr })
 }

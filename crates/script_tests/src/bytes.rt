@@ -1,50 +1,42 @@
 // Every byte at every place of a line, and every cut of a script.
-use crate::answers::{counts, faults};
+use crate::answers::{bad_first_line, bad_script, counts, faults};
 use std::alloc::{AllocError, Global};
 use std::test::Fail;
 
-// Whether a byte fits a place: `s` is a select, `h` a digit, `n` a digit above 0, `c` a channel, `m` a modem line,
-// `v` a level, and any other the byte itself.
+// Whether a byte fits a place. A place is one letter, so that a row of them can be read as a line: `s` is a select,
+// `h` a digit, `n` a digit above 0, `c` a channel, `m` a modem line, `v` a level, and any other the byte itself.
 fn fits(byte: u8, place: u8) -> bool {
     match place {
         b's' => b"01234567".contains(&byte),
         b'h' => b"0123456789ABCDEF".contains(&byte),
         b'n' => b"123456789ABCDEF".contains(&byte),
-        b'c' => byte == b'1' || byte == b'2',
-        b'm' => byte == b'C' || byte == b'D' || byte == b'S',
-        b'v' => byte == b'0' || byte == b'1',
+        b'c' => b"12".contains(&byte),
+        b'm' => b"CDS".contains(&byte),
+        b'v' => b"01".contains(&byte),
         _ => byte == place,
     }
 }
 
 // The text with another byte at a place.
 fn changed(heap: Global, text: &str, at: usize, byte: u8) -> Result<Vec<u8>, AllocError> {
-    let mut bytes = Vec::new(heap);
-    for (i, old) in text.bytes().enumerate() {
-        bytes.push(if i == at { byte } else { old })?;
-    }
-    Ok(bytes)
-}
-
-// The text without the bytes from a place on.
-fn cut(heap: Global, text: &str, at: usize) -> Result<Vec<u8>, AllocError> {
-    text.bytes().take(at).collect(heap)
+    text.bytes()
+        .enumerate()
+        .map(|(i, old)| if i == at { byte } else { old })
+        .collect(heap)
 }
 
 #[test]
 fn every_byte_in_the_first_line(rt: HostRuntime) -> Result<(), Fail> {
     let text = "DUS 0001\nR 1\n";
-    let mut column = 1u32;
-    for (at, right) in "DUS 0001\n".bytes().enumerate() {
+    for (column, (at, right)) in (1..).zip("DUS 0001\n".bytes().enumerate()) {
         for byte in 0..=255u8 {
             let script = changed(rt.alloc(), text, at, byte)?;
             if byte == right {
-                counts(&rt, &byte, rt.alloc(), script.as_slice(), 1)?;
+                counts(&rt, &byte, &script, 1)?;
             } else {
-                faults(&rt, &byte, rt.alloc(), script.as_slice(), 8, 1, column)?;
+                faults(&rt, &byte, &script, bad_first_line(column));
             }
         }
-        column = column.wrapping_add(1);
     }
     Ok(())
 }
@@ -60,17 +52,15 @@ fn every_byte_in_a_line(rt: HostRuntime) -> Result<(), Fail> {
         ("DUS 0001\nL 2 D 1\nR 1\n", " c m v\n"),
         ("DUS 0001\nS 0E E0\nR 1\n", " hh hh\n"),
     ] {
-        let mut column = 2u32;
-        for (i, place) in places.bytes().enumerate() {
+        for ((at, column), place) in (10..).zip(2..).zip(places.bytes()) {
             for byte in 0..=255u8 {
-                let script = changed(rt.alloc(), text, i.wrapping_add(10), byte)?;
+                let script = changed(rt.alloc(), text, at, byte)?;
                 if fits(byte, place) {
-                    counts(&rt, &text, rt.alloc(), script.as_slice(), 2)?;
+                    counts(&rt, &text, &script, 2)?;
                 } else {
-                    faults(&rt, &text, rt.alloc(), script.as_slice(), 9, 2, column)?;
+                    faults(&rt, &text, &script, bad_script(2, column));
                 }
             }
-            column = column.wrapping_add(1);
         }
     }
     Ok(())
@@ -82,17 +72,9 @@ fn every_byte_for_a_letter(rt: HostRuntime) -> Result<(), Fail> {
     for byte in 0..=255u8 {
         let script = changed(rt.alloc(), "DUS 0001\nR 1\n", 9, byte)?;
         match byte {
-            b'R' => counts(&rt, &byte, rt.alloc(), script.as_slice(), 1)?,
-            b'W' | b'L' | b'C' | b'S' => faults(
-                &rt,
-                &byte,
-                rt.alloc(),
-                script.as_slice(),
-                9,
-                2,
-                4,
-            )?,
-            _ => faults(&rt, &byte, rt.alloc(), script.as_slice(), 9, 2, 1)?,
+            b'R' => counts(&rt, &byte, &script, 1)?,
+            b'W' | b'L' | b'C' | b'S' => faults(&rt, &byte, &script, bad_script(2, 4)),
+            _ => faults(&rt, &byte, &script, bad_script(2, 1)),
         }
     }
     Ok(())
@@ -101,33 +83,23 @@ fn every_byte_for_a_letter(rt: HostRuntime) -> Result<(), Fail> {
 // Cut anywhere but at the end of a line, a script has its fault at its end.
 #[test]
 fn every_cut(rt: HostRuntime) -> Result<(), Fail> {
-    let text = "DUS 0001\nS 0E E0\nW 3 41\nC 039C\nL 1 C 0\nR 7\n";
-    let mut line = 1u32;
-    let mut column = 1u32;
-    let mut commands = 0usize;
-    for (at, next) in text.bytes().enumerate() {
-        let script = cut(rt.alloc(), text, at)?;
-        if line > 1 && column == 1 {
-            counts(&rt, &at, rt.alloc(), script.as_slice(), commands)?;
-            commands = commands.wrapping_add(1);
-        } else {
-            let number = if line == 1 { 8 } else { 9 };
-            faults(
-                &rt,
-                &at,
-                rt.alloc(),
-                script.as_slice(),
-                number,
-                line,
-                column,
-            )?;
-        }
-        if next == b'\n' {
-            line = line.wrapping_add(1);
-            column = 1;
-        } else {
-            column = column.wrapping_add(1);
+    let mut script = Vec::new(rt.alloc());
+    for (line, text, commands) in [
+        (1, "DUS 0001\n", 0),
+        (2, "S 0E E0\n", 0),
+        (3, "W 3 41\n", 1),
+        (4, "C 039C\n", 2),
+        (5, "L 1 C 0\n", 3),
+        (6, "R 7\n", 4),
+    ] {
+        for (column, byte) in (1..).zip(text.bytes()) {
+            match (line, column) {
+                (1, _) => faults(&rt, &script.len(), &script, bad_first_line(column)),
+                (_, 1) => counts(&rt, &script.len(), &script, commands)?,
+                _ => faults(&rt, &script.len(), &script, bad_script(line, column)),
+            }
+            script.push(byte)?;
         }
     }
-    counts(&rt, &text, rt.alloc(), text.as_bytes(), 5)
+    counts(&rt, &"uncut", &script, 5)
 }

@@ -1,62 +1,36 @@
 // Scripts with what they give.
-use crate::answers::{faults, says};
+use crate::answers::{bad_first_line, bad_script, faults, says};
 use script_words::command::Command;
+use script_words::refusal::ScriptRefusal;
 use std::test::Fail;
 use terms::channel_id::ChannelId;
 use terms::modem_line::ModemLine;
 
 #[test]
 fn a_script_without_commands(rt: HostRuntime) -> Result<(), Fail> {
-    says(&rt, rt.alloc(), b"DUS 0001\n", &[])
+    says(&rt, b"DUS 0001\n", &[])
 }
 
 #[test]
 fn each_command(rt: HostRuntime) -> Result<(), Fail> {
-    let heap = rt.alloc();
-    says(
-        &rt,
-        heap,
-        b"DUS 0001\nR 0\n",
-        &[Command::Read { select: 0 }],
-    )?;
     let byte = 0x4f;
-    says(
-        &rt,
-        rt.alloc(),
-        b"DUS 0001\nW 3 4F\n",
-        &[Command::Write { select: 3, byte }],
-    )?;
-    says(
-        &rt,
-        rt.alloc(),
-        b"DUS 0001\nC 0001\n",
-        &[Command::Cycles { count: 1 }],
-    )?;
-    says(
-        &rt,
-        rt.alloc(),
-        b"DUS 0001\nC FFFF\n",
-        &[Command::Cycles { count: 0xffff }],
-    )?;
-    says(
-        &rt,
-        rt.alloc(),
-        b"DUS 0001\nC 1A2B\n",
-        &[Command::Cycles { count: 0x1a2b }],
-    )?;
-    says(
-        &rt,
-        rt.alloc(),
-        b"DUS 0001\nS 0E E3\n",
-        &[Command::SetUp { cr: 0x0e, fr: 0xe3 }],
-    )
+    for (text, command) in [
+        ("DUS 0001\nR 0\n", Command::Read { select: 0 }),
+        ("DUS 0001\nW 3 4F\n", Command::Write { select: 3, byte }),
+        ("DUS 0001\nC 0001\n", Command::Cycles { count: 1 }),
+        ("DUS 0001\nC FFFF\n", Command::Cycles { count: 0xffff }),
+        ("DUS 0001\nC 1A2B\n", Command::Cycles { count: 0x1a2b }),
+        ("DUS 0001\nS 0E E3\n", Command::SetUp { cr: 0x0e, fr: 0xe3 }),
+    ] {
+        says(&rt, text.as_bytes(), &[command])?;
+    }
+    Ok(())
 }
 
 #[test]
 fn each_modem_line(rt: HostRuntime) -> Result<(), Fail> {
     says(
         &rt,
-        rt.alloc(),
         b"DUS 0001\nL 1 C 0\nL 2 D 1\nL 1 S 1\n",
         &[
             Command::Modem {
@@ -82,7 +56,6 @@ fn each_modem_line(rt: HostRuntime) -> Result<(), Fail> {
 fn commands_in_their_order(rt: HostRuntime) -> Result<(), Fail> {
     says(
         &rt,
-        rt.alloc(),
         b"DUS 0001\nS 0E E0\nW 3 41\nC 039C\nR 7\nR 4\n",
         &[
             Command::SetUp { cr: 0x0e, fr: 0xe0 },
@@ -117,7 +90,7 @@ fn first_lines_that_are_refused_by_8(rt: HostRuntime) -> Result<(), Fail> {
         ("DUS 0001\r\n", 9),
         ("DUS 00010\n", 9),
     ] {
-        faults(&rt, &text, rt.alloc(), text.as_bytes(), 8, 1, column)?;
+        faults(&rt, &text, text.as_bytes(), bad_first_line(column));
     }
     Ok(())
 }
@@ -143,7 +116,7 @@ fn lines_that_are_refused_by_9(rt: HostRuntime) -> Result<(), Fail> {
         ("DUS 0001\nR 1\n\nR 1\n", 3, 1),
         ("DUS 0001\nDUS 0001\n", 2, 1),
     ] {
-        faults(&rt, &text, rt.alloc(), text.as_bytes(), 9, line, column)?;
+        faults(&rt, &text, text.as_bytes(), bad_script(line, column));
     }
     Ok(())
 }
@@ -170,7 +143,34 @@ fn longer_lines_that_are_refused_by_9(rt: HostRuntime) -> Result<(), Fail> {
         ("DUS 0001\nS 0EE0\n", 2, 5),
         ("DUS 0001\nS 0E E0", 2, 8),
     ] {
-        faults(&rt, &text, rt.alloc(), text.as_bytes(), 9, line, column)?;
+        faults(&rt, &text, text.as_bytes(), bad_script(line, column));
+    }
+    Ok(())
+}
+
+// The number and the text of each refusal.
+#[test]
+fn the_refusals(rt: HostRuntime) -> Result<(), Fail> {
+    for (refusal, number, text) in [
+        (
+            ScriptRefusal::BadFirstLine,
+            8,
+            "refusal 8: a script has another first line than DUS 0001",
+        ),
+        (
+            ScriptRefusal::BadScript,
+            9,
+            "refusal 9: a script has a byte, or its end, where no script has it",
+        ),
+        (
+            ScriptRefusal::ScriptTooLong,
+            10,
+            "refusal 10: a script has more than 16,384 bytes",
+        ),
+    ] {
+        assert_eq!(rt; refusal.number(), number);
+        let printed = format!(in rt.alloc(); "{refusal}")?;
+        assert_eq!(rt; printed.as_str(), text);
     }
     Ok(())
 }

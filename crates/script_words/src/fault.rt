@@ -6,6 +6,7 @@ use crate::refusal::ScriptRefusal;
 use std::alloc::AllocFailed;
 
 // Why a list of bytes is no script, and where: line and column count from 1.
+// The two are no struct of their own: nothing takes or gives them alone, and a word's column is a narrower number.
 #[derive(Clone, Copy, PartialEq, Debug)]
 pub struct Fault {
     pub refusal: ScriptRefusal,
@@ -19,6 +20,7 @@ pub enum ScriptError {
     OutOfMemory,
 }
 
+// This `From` and the next by hand, as a derived one promises nothing of the case that it makes.
 impl From<Fault> for ScriptError {
     ghost from_gives = { λ f r. r ≡ Faulty f };
 

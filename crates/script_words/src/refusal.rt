@@ -2,14 +2,16 @@
 ghost use Rattle.std.specs.Prelude.{◌≡◌};
 ghost use Rattle.script_words.specs.Refusal.{script_refusal_number};
 
-use std::error::Error;
-use std::fmt;
+use thiserror::Error;
 
 // Each cause has its number; those of chip and board go up to 7.
-#[derive(Clone, Copy, PartialEq, Eq, Debug)]
+#[derive(Clone, Copy, PartialEq, Eq, Debug, Error)]
 pub enum ScriptRefusal {
+    #[error("refusal 8: a script has another first line than DUS 0001")]
     BadFirstLine = 8,
+    #[error("refusal 9: a script has a byte, or its end, where no script has it")]
     BadScript = 9,
+    #[error("refusal 10: a script has more than 16,384 bytes")]
     ScriptTooLong = 10,
 }
 
@@ -20,18 +22,3 @@ impl ScriptRefusal {
         self as u8
     }
 }
-
-impl fmt::Display for ScriptRefusal {
-    fn fmt<W: fmt::Write>(&self, f: &mut fmt::Formatter<W>) -> fmt::Result {
-        let cause = match *self {
-            ScriptRefusal::BadFirstLine =>
-                "refusal 8: a script has another first line than DUS 0001",
-            ScriptRefusal::BadScript =>
-                "refusal 9: a script has a byte, or its end, where no script has it",
-            ScriptRefusal::ScriptTooLong => "refusal 10: a script has more than 16,384 bytes",
-        };
-        write!(f, "{cause}")
-    }
-}
-
-impl Error for ScriptRefusal {}

@@ -1,7 +1,7 @@
 // A part of the script, with the place of its first byte.
 ghost use Rattle.std.specs.Prelude.{◌≡◌, ◌+◌, ◌<◌, ◌≤◌, length, take, IfOk, OnOk};
 ghost use Rattle.script_words.specs.Format.{only, select_digit, channel_digit, line_letter, level_digit, digit_value, misfit_at};
-ghost use Rattle.script_words.specs.Word.{any_at, spot_at, digit_at};
+ghost use Rattle.script_words.specs.Word.{any_at, spot_at, digit_at, hex_byte_at, StandsAt};
 
 use crate::fault::Fault;
 use crate::refusal::ScriptRefusal;
@@ -28,7 +28,7 @@ impl<'a> Word<'a> {
         Fault {
             refusal,
             line: self.line,
-            column: self.column as u32 + at as u32,
+            column: u32::from(self.column) + u32::from(at),
         }
     }
 
@@ -37,12 +37,10 @@ impl<'a> Word<'a> {
         ensures value { result ≡ any_at self.entry at }
         ensures within { OnOk result (at < length self.entry.bytes.now) }
     {
-        let i = at as usize;
-        if i < self.bytes.len() {
-            Ok(self.bytes[i])
-        } else {
-            Err(self.fault(at))
-        }
+        self.bytes
+            .get(usize::from(at))
+            .copied()
+            .ok_or(self.fault(at))
     }
 
     // The first bytes, or all where there are fewer.
@@ -51,15 +49,19 @@ impl<'a> Word<'a> {
         ensures line { result.line ≡ self.entry.line }
         ensures column { result.column ≡ self.entry.column }
     {
-        if count < self.bytes.len() {
-            Word {
-                bytes: &self.bytes[0..count],
-                line: self.line,
-                column: self.column,
-            }
-        } else {
-            self
+        Word {
+            bytes: self.bytes.get(..count).unwrap_or(self.bytes),
+            ..self
         }
+    }
+
+    // What the byte `at` stands for, if it stands for anything.
+    fn stands_at<T, F: FnOnce(u8) -> Option<T>>(self, at: u8, meaning: F) -> Result<T, Fault>
+        requires { F.IsAlwaysCallable meaning }
+        ensures value { StandsAt (F.post meaning) self.entry at result }
+        ensures within { OnOk result (at < length self.entry.bytes.now) }
+    {
+        meaning(self.byte_at(at)?).ok_or(self.fault(at))
     }
 
     // One byte alone fits.
@@ -67,11 +69,7 @@ impl<'a> Word<'a> {
         ensures value { result ≡ spot_at (only byte) self.entry at }
         ensures within { OnOk result (at < length self.entry.bytes.now) }
     {
-        if self.byte_at(at)? == byte {
-            Ok(())
-        } else {
-            Err(self.fault(at))
-        }
+        self.stands_at(at, |found| (found == byte).then_some(()))
     }
 
     // A digit of a value between two others.
@@ -79,10 +77,9 @@ impl<'a> Word<'a> {
         ensures value { result ≡ digit_at least most self.entry at }
         ensures bound { IfOk result (λ v. v ≤ most) }
     {
-        match digit_value(self.byte_at(at)?) {
-            Some(value) if least <= value && value <= most => Ok(value),
-            _ => Err(self.fault(at)),
-        }
+        self.stands_at(at, |byte| {
+            digit_value(byte).filter(|value| (least..=most).contains(value))
+        })
     }
 
     // The select of a register.
@@ -93,39 +90,47 @@ impl<'a> Word<'a> {
         self.digit(at, 0, 7)
     }
 
+    // Two digits from the byte `at` on.
+    pub fn hex_byte(self, at: u8) -> Result<u8, Fault>
+        requires { at < 255 }
+        ensures { result ≡ hex_byte_at self.entry at }
+    {
+        Ok(16 * self.digit(at, 0, 15)? + self.digit(at + 1, 0, 15)?)
+    }
+
     pub fn channel(self, at: u8) -> Result<ChannelId, Fault>
         ensures { result ≡ spot_at channel_digit self.entry at }
     {
-        match char::from(self.byte_at(at)?) {
-            '1' => Ok(ChannelId::One),
-            '2' => Ok(ChannelId::Two),
-            _ => Err(self.fault(at)),
-        }
+        self.stands_at(at, |byte| match char::from(byte) {
+            '1' => Some(ChannelId::One),
+            '2' => Some(ChannelId::Two),
+            _ => None,
+        })
     }
 
     pub fn modem_line(self, at: u8) -> Result<ModemLine, Fault>
         ensures { result ≡ spot_at line_letter self.entry at }
     {
-        match char::from(self.byte_at(at)?) {
-            'C' => Ok(ModemLine::Cts),
-            'D' => Ok(ModemLine::Dcd),
-            'S' => Ok(ModemLine::Dsr),
-            _ => Err(self.fault(at)),
-        }
+        self.stands_at(at, |byte| match char::from(byte) {
+            'C' => Some(ModemLine::Cts),
+            'D' => Some(ModemLine::Dcd),
+            'S' => Some(ModemLine::Dsr),
+            _ => None,
+        })
     }
 
     pub fn level(self, at: u8) -> Result<bool, Fault>
         ensures { result ≡ spot_at level_digit self.entry at }
     {
-        match char::from(self.byte_at(at)?) {
-            '0' => Ok(false),
-            '1' => Ok(true),
-            _ => Err(self.fault(at)),
-        }
+        self.stands_at(at, |byte| match char::from(byte) {
+            '0' => Some(false),
+            '1' => Some(true),
+            _ => None,
+        })
     }
 }
 
-// The digits are 0 to 9 and A to F.
+// The digits are 0 to 9 and A to F; `to_digit` of a char would take small letters too.
 fn digit_value(byte: u8) -> Option<u8>
     ensures { result ≡ digit_value byte }
 {

@@ -1,5 +1,4 @@
 use Rattle.std.proofs.Common.{ℕ, List, drop, Err, Result, Vec, sym, refl, ap, ◌∙◌, subst, arith}
-use Rattle.std.proofs.lemmas.Result.{err_from_is_err_and}
 use Rattle.std.specs.declared.alloc.Global.{Global}
 use Rattle.script_words.specs.declared.command.Placed.{Placed}
 use Rattle.script_words.specs.declared.fault.ScriptError.{ScriptError}
@@ -22,10 +21,9 @@ returns-then-script-gt-MOST_BYTES c = all c.args.script.now (Err (Faulty _)) (to
 
 pub returns-in_err-first_line : goal.returns-in_err-first_line
 returns-in_err-first_line c =
-    let p = err_from_is_err_and c.from_residual.result c.from_residual.ensures.1 in
-    all c.args.script.now c.from_residual.result
-    (gives_fault _ _ _ _ p.1 p.2 (no_first_line _ _ refl refl (omega arith) c.in_err-first_line.ensures.value))
-    (no_want _ _ _ _ p.1 p.2)
+    let r = c.from_residual.result in
+    let e = c.from_residual.ensures.1 in
+    all c.args.script.now r (gives_fault r _ _ e (no_first_line _ _ refl refl (omega arith) c.in_err-first_line.ensures.value)) (no_want r _ _ e)
 
 pub split_at-requires : goal.split_at-requires
 split_at-requires c = c.in_ok-first_line.ensures.within
