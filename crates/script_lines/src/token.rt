@@ -1,9 +1,9 @@
 // A token: a command by its letter, with its word, the bytes from the letter to the end of its line.
 // Where the script ends within the line, the word ends there too.
-ghost use Rattle.std.specs.Prelude.{◌≡◌};
+ghost use Rattle.std.specs.Prelude.{◌≡◌, ◌<◌};
 ghost use Rattle.script_words.specs.Format.{after, R, W, C, L, S};
 ghost use Rattle.script_lines.specs.Token.{word_of, piece, first_piece, said, token_says};
-ghost use Rattle.script_words.specs.Word.{line_at};
+ghost use Rattle.script_words.specs.Word.{hex_byte_at, line_at};
 
 use script_words::command::Command;
 use script_words::fault::Fault;
@@ -67,6 +67,14 @@ impl<'a> Token<'a> {
     }
 }
 
+// Two digits from the byte `at` on.
+fn hex_byte(word: Word<'_>, at: u8) -> Result<u8, Fault>
+    requires { at < 255 }
+    ensures { result ≡ hex_byte_at word.entry at }
+{
+    Ok(16 * word.digit(at, 0, 15)? + word.digit(at + 1, 0, 15)?)
+}
+
 // R r
 fn read_command(word: Word<'_>) -> Result<Command, Fault>
     ensures { said result ≡ line_at (after R) word.entry 1 }
@@ -84,7 +92,7 @@ fn write_command(word: Word<'_>) -> Result<Command, Fault>
     word.only(1, b' ')?;
     let select = word.select(2)?;
     word.only(3, b' ')?;
-    let byte = word.hex_byte(4)?;
+    let byte = hex_byte(word, 4)?;
     word.only(6, b'\n')?;
     Ok(Command::Write { select, byte })
 }
@@ -94,7 +102,7 @@ fn cycles_command(word: Word<'_>) -> Result<Command, Fault>
     ensures { said result ≡ line_at (after C) word.entry 1 }
 {
     word.only(1, b' ')?;
-    let front = 16 * u16::from(word.hex_byte(2)?) + u16::from(word.digit(4, 0, 15)?);
+    let front = 16 * u16::from(hex_byte(word, 2)?) + u16::from(word.digit(4, 0, 15)?);
     let last = word.digit(5, u8::from(front == 0), 15)?;
     word.only(6, b'\n')?;
     Ok(Command::Cycles {
@@ -125,9 +133,9 @@ fn set_up_command(word: Word<'_>) -> Result<Command, Fault>
     ensures { said result ≡ line_at (after S) word.entry 1 }
 {
     word.only(1, b' ')?;
-    let cr = word.hex_byte(2)?;
+    let cr = hex_byte(word, 2)?;
     word.only(4, b' ')?;
-    let fr = word.hex_byte(5)?;
+    let fr = hex_byte(word, 5)?;
     word.only(7, b'\n')?;
     Ok(Command::SetUp { cr, fr })
 }

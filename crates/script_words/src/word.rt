@@ -1,7 +1,7 @@
 // A part of the script, with the place of its first byte.
 ghost use Rattle.std.specs.Prelude.{◌≡◌, ◌+◌, ◌<◌, ◌≤◌, length, take, IfOk, OnOk};
 ghost use Rattle.script_words.specs.Format.{only, select_digit, channel_digit, line_letter, level_digit, digit_value, misfit_at};
-ghost use Rattle.script_words.specs.Word.{any_at, spot_at, digit_at, hex_byte_at, StandsAt};
+ghost use Rattle.script_words.specs.Word.{any_at, spot_at, digit_at, StandsAt};
 
 use crate::fault::Fault;
 use crate::refusal::ScriptRefusal;
@@ -88,14 +88,6 @@ impl<'a> Word<'a> {
         ensures bound { IfOk result (λ v. v ≤ 7) }
     {
         self.digit(at, 0, 7)
-    }
-
-    // Two digits from the byte `at` on.
-    pub fn hex_byte(self, at: u8) -> Result<u8, Fault>
-        requires { at < 255 }
-        ensures { result ≡ hex_byte_at self.entry at }
-    {
-        Ok(16 * self.digit(at, 0, 15)? + self.digit(at + 1, 0, 15)?)
     }
 
     pub fn channel(self, at: u8) -> Result<ChannelId, Fault>
