@@ -62,7 +62,7 @@ impl Board {
         if cycles == 0 || cycles > LONGEST {
             return Err(Refusal::BadSweepLength.into());
         }
-        if room / 2 < cycles as usize {
+        if room < 2 * cycles as usize {
             return Err(Refusal::TooFewRecords.into());
         }
         for cycle in 1..=cycles {

@@ -1,7 +1,5 @@
 // One channel: its registers, its inputs and a cycle.
 
-ghost use Rattle.std.specs.Prelude.{◌≡◌};
-
 use super::bits::number_of;
 use super::clock::{Clock, Ticks};
 use super::inputs::{Input, ModemInputs};
@@ -85,13 +83,15 @@ impl Channel {
         })
     }
 
-    // Does something, and lets the requests follow the change of the sources.
-    fn act<T, F: FnOnce(&mut Channel) -> T>(&mut self, word_taken: bool, action: F) -> T
+    // Does something, and lets the requests follow the change of the sources. A word is taken where TDR gets empty.
+    fn act<T, F: FnOnce(&mut Channel) -> T>(&mut self, action: F) -> T
         requires { F.IsAlwaysCallable action }
     {
         let was = self.sources();
+        let was_full = self.outbox.is_some();
         let result = action(self);
         let is = self.sources();
+        let word_taken = was_full && self.outbox.is_none();
         self.interrupts.follow(was, is, word_taken);
         result
     }
@@ -127,7 +127,7 @@ impl Channel {
 
     // Reads RDR.
     pub(crate) fn read_data(&mut self) -> ReadOut {
-        self.act(false, |channel| {
+        self.act(|channel| {
             let note = if channel.inbox.full {
                 ReadNote::Fresh
             } else {
@@ -164,7 +164,7 @@ impl Channel {
             self.show_parity_bit = byte & 0x01 != 0;
             return;
         }
-        self.act(false, |channel| {
+        self.act(|channel| {
             channel.inbox.compare = byte;
             channel.inbox.asleep = true;
             channel.inbox.full = false;
@@ -173,7 +173,7 @@ impl Channel {
 
     // Writes TDR.
     pub(crate) fn write_data(&mut self, byte: u8) -> WriteNote {
-        self.act(false, |channel| match channel.outbox.replace(byte) {
+        self.act(|channel| match channel.outbox.replace(byte) {
             Some(_) => WriteNote::Replaced,
             None => WriteNote::Stored,
         })
@@ -181,7 +181,7 @@ impl Channel {
 
     // A level of a modem input.
     pub(crate) fn modem(&mut self, input: Input, high: bool) {
-        self.act(false, |channel| channel.inputs.set(input, high));
+        self.act(|channel| channel.inputs.set(input, high));
     }
 
     // One cycle, given RxD and what RxC and TxC mark.
@@ -200,9 +200,7 @@ impl Channel {
 
     fn receive(&mut self, rxd: bool) -> Option<Report> {
         let heard = self.receiver.tick(rxd, self.settings.layout)?;
-        Some(self.act(false, |channel| {
-            channel.inbox.end_frame(heard, channel.show_parity_bit)
-        }))
+        Some(self.act(|channel| { channel.inbox.end_frame(heard, channel.show_parity_bit) }))
     }
 
     fn transmit(&mut self) {
@@ -216,7 +214,7 @@ impl Channel {
             layout: self.settings.layout,
         };
         if self.transmitter.tick(work) {
-            self.act(true, |channel| channel.outbox = None);
+            self.act(|channel| channel.outbox = None);
         }
     }
 

@@ -7,6 +7,7 @@ use std::mem;
 const MOST: usize = 256;
 
 // A line as the levels that it holds, in a ring, and the place of the next one to leave.
+// The ring is kept by hand, since the kit's circular buffer allocates and a new line cannot fail.
 #[derive(Drop)]
 pub struct Delay {
     held: ArrayVec<bool, MOST>,

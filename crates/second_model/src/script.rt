@@ -55,7 +55,8 @@ pub enum ScriptError {
     OutOfMemory(#[from(alloc)] AllocError),
 }
 
-// Whether a byte fits a mark of a pattern. A small letter stands for several bytes, any other mark for itself.
+// Whether a byte fits a mark of a pattern. A small letter stands for the bytes that it names here, any other mark for
+// itself. Marks are letters and no enum, so that a pattern looks like its line in `docs/SCRIPT.md`.
 fn fits(mark: u8, byte: u8) -> bool {
     match mark {
         b'r' => matches!(byte, b'0'..=b'7'),
@@ -82,11 +83,7 @@ fn fitting<const N: usize>(pattern: &[u8; N], line: &[u8]) -> Result<[u8; N], us
 
 // The value of a digit.
 fn digit(byte: u8) -> u8 {
-    match byte {
-        b'0'..=b'9' => byte - b'0',
-        b'A'..=b'F' => byte - b'A' + 10,
-        _ => 0,
-    }
+    char::from(byte).to_digit(16).unwrap_or(0) as u8
 }
 
 // The value of two digits.

@@ -1,7 +1,5 @@
 // The seven interrupt sources as sets, and the requests that they raise.
 
-ghost use Rattle.std.specs.Prelude.{◌≡◌};
-
 use super::bits::number_of;
 
 // The interrupt sources, from bit 0 of ISR up.

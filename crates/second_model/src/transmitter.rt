@@ -13,7 +13,7 @@ struct TimedLevel {
     level: bool,
 }
 
-// A frame that is sent, with the tick and the level that it has reached.
+// A frame that is sent, with the tick at which it ends, and the tick and the level that it has reached.
 #[derive(Drop)]
 pub struct Frame {
     levels: ArrayVec<TimedLevel, 12>,
