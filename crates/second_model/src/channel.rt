@@ -1,13 +1,14 @@
 // One channel: its registers, its inputs and a cycle.
 
-use super::clock::Clock;
-use super::inputs::{Input, Watched};
-use super::outcome::{Note, ReadOut, Report};
+use super::bits::number_of;
+use super::clock::{Clock, Ticks};
+use super::inputs::{Input, ModemInputs};
+use super::outcome::{ReadNote, ReadOut, Report, WriteNote};
 use super::receiver::{Hearing, Receiver};
 use super::registers::Settings;
-use super::sources::{Interrupts, Sources};
-use super::transmitter::{Doing, Transmitter, Work};
-use super::words::Inbox;
+use super::sources::{Interrupts, Source, Sources};
+use super::transmitter::{Transmitter, Work};
+use super::words::{ErrorFlags, Inbox};
 
 // One channel.
 #[derive(Drop)]
@@ -15,9 +16,7 @@ pub struct Channel {
     settings: Settings,
     send_break: bool,
     show_parity_bit: bool,
-    cts: Watched,
-    dcd: Watched,
-    dsr: Watched,
+    inputs: ModemInputs,
     interrupts: Interrupts,
     outbox: Option<u8>,
     transmitter: Transmitter,
@@ -28,17 +27,15 @@ pub struct Channel {
 
 // What a channel holds that its calls do not show, for the counts of a trial.
 #[derive(Clone, Copy)]
-pub struct View {
+pub struct View<'a> {
     pub requests: Sources,
     pub flags: Sources,
-    pub framing: bool,
-    pub overrun: bool,
-    pub broken: bool,
+    pub errors: ErrorFlags,
     pub asleep: bool,
     pub show_parity_bit: bool,
     pub tdr_full: bool,
-    pub doing: Doing,
-    pub hearing: Hearing,
+    pub transmitter: &'a Transmitter,
+    pub hearing: &'a Hearing,
     pub false_starts: u32,
     pub other_format: bool,
 }
@@ -46,21 +43,17 @@ pub struct View {
 impl Channel {
     // A channel at power on.
     pub(crate) fn new() -> Channel {
-        let settings = Settings::new();
-        let receiver = Receiver::new(settings.layout);
         Channel {
-            settings,
+            settings: Settings::new(),
             send_break: false,
             show_parity_bit: false,
-            cts: Watched::low(),
-            dcd: Watched::low(),
-            dsr: Watched::low(),
-            interrupts: Interrupts::none(),
+            inputs: ModemInputs::default(),
+            interrupts: Interrupts::default(),
             outbox: None,
-            transmitter: Transmitter::new(),
+            transmitter: Transmitter::Rests,
             inbox: Inbox::new(),
-            receiver,
-            clock: Clock::new(),
+            receiver: Receiver::new(),
+            clock: Clock::with_code(0),
         }
     }
 
@@ -70,102 +63,83 @@ impl Channel {
         self.settings.rts = true;
         self.send_break = false;
         self.show_parity_bit = false;
-        self.clear_changes();
-        self.interrupts = Interrupts::none();
+        self.inputs.clear_changes();
+        self.interrupts = Interrupts::default();
         self.inbox.word = 0;
-        self.inbox.clear_faults();
+        self.inbox.errors = ErrorFlags::default();
         self.inbox.asleep = false;
-    }
-
-    fn clear_changes(&mut self) {
-        self.cts.changed = false;
-        self.dcd.changed = false;
-        self.dsr.changed = false;
     }
 
     // Bits 6-0 of ISR.
     fn sources(&self) -> Sources {
-        Sources {
-            tdre: self.outbox.is_none() && !self.cts.high,
-            ctst: self.cts.changed,
-            dcdt: self.dcd.changed,
-            dsrt: self.dsr.changed,
-            par: self.inbox.parity,
-            fob: self.inbox.faulty(),
-            rdrf: self.inbox.full,
-        }
+        Sources::that(|source| match source {
+            Source::Tdre => self.outbox.is_none() && !self.inputs.at(Input::Cts).high,
+            Source::Ctst => self.inputs.at(Input::Cts).changed,
+            Source::Dcdt => self.inputs.at(Input::Dcd).changed,
+            Source::Dsrt => self.inputs.at(Input::Dsr).changed,
+            Source::Par => self.inbox.errors.parity,
+            Source::Fob => self.inbox.errors.faulty(),
+            Source::Rdrf => self.inbox.full,
+        })
     }
 
-    // Lets the requests follow an action that began with these sources.
-    fn settle(&mut self, was: Sources, word_taken: bool) {
+    // Does something, and lets the requests follow the change of the sources. A word is taken where TDR gets empty.
+    fn act<T, F: FnOnce(&mut Channel) -> T>(&mut self, action: F) -> T
+        requires { F.IsAlwaysCallable action }
+    {
+        let was = self.sources();
+        let was_full = self.outbox.is_some();
+        let result = action(self);
         let is = self.sources();
+        let word_taken = was_full && self.outbox.is_none();
         self.interrupts.follow(was, is, word_taken);
+        result
     }
 
     // Reads ISR.
     pub(crate) fn read_interrupts(&mut self) -> ReadOut {
         let sources = self.sources();
-        let mut byte = sources.byte();
-        if sources.any() || (self.cts.high && !self.settings.echo) {
-            byte |= 0x80;
-        }
-        self.clear_changes();
+        let any = sources.any() || self.inputs.at(Input::Cts).high && !self.settings.echo;
+        self.inputs.clear_changes();
         self.interrupts.drop_requests();
         ReadOut {
-            byte,
-            note: Note::Plain,
+            byte: sources.byte() | if any { 0x80 } else { 0 },
+            note: None,
         }
     }
 
     // Reads CSR.
     pub(crate) fn read_status(&self) -> ReadOut {
-        let idle = self.sources().tdre && matches!(self.transmitter.doing(), Doing::Rests);
-        let mut byte = 0u8;
-        if self.inbox.framing {
-            byte |= 0x80;
-        }
-        if idle {
-            byte |= 0x40;
-        }
-        if self.cts.high {
-            byte |= 0x20;
-        }
-        if self.dcd.high {
-            byte |= 0x10;
-        }
-        if self.dsr.high {
-            byte |= 0x08;
-        }
-        if self.inbox.broken {
-            byte |= 0x04;
-        }
-        if self.settings.dtr {
-            byte |= 0x02;
-        }
-        if self.settings.rts {
-            byte |= 0x01;
-        }
-        ReadOut {
-            byte,
-            note: Note::Plain,
-        }
+        let idle = self.sources().has(Source::Tdre)
+            && matches!(self.transmitter, Transmitter::Rests);
+        let byte = number_of(&[
+            self.settings.rts,
+            self.settings.dtr,
+            self.inbox.errors.broken,
+            self.inputs.at(Input::Dsr).high,
+            self.inputs.at(Input::Dcd).high,
+            self.inputs.at(Input::Cts).high,
+            idle,
+            self.inbox.errors.framing,
+        ]);
+        ReadOut { byte, note: None }
     }
 
     // Reads RDR.
     pub(crate) fn read_data(&mut self) -> ReadOut {
-        let was = self.sources();
-        let note = if self.inbox.full {
-            Note::Fresh
-        } else {
-            Note::Old
-        };
-        self.inbox.full = false;
-        self.inbox.clear_faults();
-        self.settle(was, false);
-        ReadOut {
-            byte: self.inbox.word,
-            note,
-        }
+        self.act(|channel| {
+            let note = if channel.inbox.full {
+                ReadNote::Fresh
+            } else {
+                ReadNote::Old
+            };
+            channel.inbox.full = false;
+            channel.inbox.errors = ErrorFlags::default();
+            ReadOut {
+                byte: channel.inbox.word,
+                note: Some(note),
+            }
+        })
     }
 
     // Writes IER.
@@ -190,70 +164,57 @@ impl Channel {
             self.show_parity_bit = byte & 0x01 != 0;
             return;
         }
-        let was = self.sources();
-        self.inbox.compare = byte;
-        self.inbox.asleep = true;
-        self.inbox.full = false;
-        self.settle(was, false);
+        self.act(|channel| {
+            channel.inbox.compare = byte;
+            channel.inbox.asleep = true;
+            channel.inbox.full = false;
+        });
     }
 
     // Writes TDR.
-    pub(crate) fn write_data(&mut self, byte: u8) -> Note {
-        let was = self.sources();
-        let note = if self.outbox.is_some() {
-            Note::Replaced
-        } else {
-            Note::Stored
-        };
-        self.outbox = Some(byte);
-        self.settle(was, false);
-        note
+    pub(crate) fn write_data(&mut self, byte: u8) -> WriteNote {
+        self.act(|channel| match channel.outbox.replace(byte) {
+            Some(_) => WriteNote::Replaced,
+            None => WriteNote::Stored,
+        })
     }
 
     // A level of a modem input.
     pub(crate) fn modem(&mut self, input: Input, high: bool) {
-        let was = self.sources();
-        match input {
-            Input::Cts => self.cts.set(high),
-            Input::Dcd => self.dcd.set(high),
-            Input::Dsr => self.dsr.set(high),
-        }
-        self.settle(was, false);
+        self.act(|channel| channel.inputs.set(input, high));
     }
 
-    // One cycle.
-    pub(crate) fn cycle(&mut self, rxd: bool, rxc: bool, txc: bool) -> Report {
-        let ticks = self.clock.cycle(rxc, txc);
-        let mut report = Report::silent();
-        if ticks.receiver {
-            report = self.receive(rxd);
-        }
+    // One cycle, given RxD and what RxC and TxC mark.
+    pub(crate) fn cycle(&mut self, rxd: bool, marks: Ticks) -> Option<Report> {
+        let ticks = self.clock.cycle(marks);
+        let report = if ticks.receiver {
+            self.receive(rxd)
+        } else {
+            None
+        };
         if ticks.transmitter {
             self.transmit();
         }
         report
     }
 
-    fn receive(&mut self, rxd: bool) -> Report {
-        let Some(heard) = self.receiver.tick(rxd, self.settings.layout) else {
-            return Report::silent();
-        };
-        let was = self.sources();
-        let report = self.inbox.end_frame(heard, self.show_parity_bit);
-        self.settle(was, false);
-        report
+    fn receive(&mut self, rxd: bool) -> Option<Report> {
+        let heard = self.receiver.tick(rxd, self.settings.layout)?;
+        Some(self.act(|channel| { channel.inbox.end_frame(heard, channel.show_parity_bit) }))
     }
 
     fn transmit(&mut self) {
         let work = Work {
             break_wanted: self.send_break,
-            word: if self.cts.high { None } else { self.outbox },
+            word: if self.inputs.at(Input::Cts).high {
+                None
+            } else {
+                self.outbox
+            },
             layout: self.settings.layout,
         };
         if self.transmitter.tick(work) {
-            let was = self.sources();
-            self.outbox = None;
-            self.settle(was, true);
+            self.act(|channel| channel.outbox = None);
         }
     }
 
@@ -268,21 +229,22 @@ impl Channel {
     }
 
     // What the calls do not show.
-    pub(crate) fn view(&self) -> View {
+    pub(crate) fn view(&self) -> View<'_> {
+        let hearing = self.receiver.hearing();
         View {
             requests: self.interrupts.requests,
             flags: self.sources(),
-            framing: self.inbox.framing,
-            overrun: self.inbox.overrun,
-            broken: self.inbox.broken,
+            errors: self.inbox.errors,
             asleep: self.inbox.asleep,
             show_parity_bit: self.show_parity_bit,
             tdr_full: self.outbox.is_some(),
-            doing: self.transmitter.doing(),
-            hearing: self.receiver.hearing(),
+            transmitter: &self.transmitter,
+            hearing,
             false_starts: self.receiver.false_starts(),
-            other_format: matches!(self.receiver.hearing(), Hearing::Gathers)
-                && self.receiver.layout().differs(self.settings.layout),
+            other_format: match hearing {
+                Hearing::Gathers(frame) => frame.layout().differs(self.settings.layout),
+                _ => false,
+            },
         }
     }
 }

@@ -1,51 +1,69 @@
 // The chip: two channels behind eight selects.
 
 use super::channel::{Channel, View};
+use super::clock::Ticks;
 use super::inputs::Input;
-use super::outcome::{Note, ReadOut, Report, Side};
+use super::outcome::{ReadOut, Refusal, Report, WriteNote};
+use super::side::{Both, Side};
+
+// The registers of a channel.
+#[derive(Clone, Copy, PartialEq, Eq, Debug)]
+enum Register {
+    Interrupt,
+    Control,
+    Auxiliary,
+    Data,
+}
+
+impl Register {
+    // All of them, in the order of their addresses.
+    const ALL: [Register; 4] = [
+        Register::Interrupt,
+        Register::Control,
+        Register::Auxiliary,
+        Register::Data,
+    ];
+}
 
 // An access that was opened at a select.
-#[derive(Clone, Copy)]
+#[derive(Clone, Copy, PartialEq, Eq, Debug)]
 pub struct Access {
     side: Side,
-    address: u8,
+    register: Register,
 }
 
 // What goes into a cycle.
-#[derive(Clone, Copy)]
+#[derive(Clone, Copy, Debug)]
 pub struct Pins {
-    pub rxd1: bool,
-    pub rxd2: bool,
+    pub rxd: Both<bool>,
     pub rxc: bool,
     pub txc: bool,
 }
 
 // What a cycle answers for one channel.
-#[derive(Clone, Copy)]
+#[derive(Clone, Copy, PartialEq, Eq, Debug)]
 pub struct Answer {
     pub txd: bool,
     pub irq: bool,
-    pub report: Report,
+    pub report: Option<Report>,
 }
 
 // A chip that was reset.
 #[derive(Drop)]
 pub struct Chip {
-    one: Channel,
-    two: Channel,
+    channels: Both<Channel>,
 }
 
 impl Access {
-    // Opens an access, or answers refusal 1.
-    pub fn open(select: u8) -> Result<Access, u8> {
-        if select > 7 {
-            return Err(1);
-        }
-        let side = if select < 4 { Side::One } else { Side::Two };
-        Ok(Access {
-            side,
-            address: select % 4,
-        })
+    // Opens an access.
+    pub fn open(select: u8) -> Result<Access, Refusal> {
+        let side = match select {
+            0..=3 => Side::One,
+            4..=7 => Side::Two,
+            _ => return Err(Refusal::NoSuchSelect),
+        };
+        let register = Register::ALL[usize::from(select % 4)];
+        Ok(Access { side, register })
     }
 }
 
@@ -53,91 +71,97 @@ impl Chip {
     // A newly reset chip.
     pub fn new() -> Chip {
         let mut chip = Chip {
-            one: Channel::new(),
-            two: Channel::new(),
+            channels: Both {
+                one: Channel::new(),
+                two: Channel::new(),
+            },
         };
         chip.reset();
         chip
     }
 
+    // A newly reset chip with these CR and FR values in both channels, whose RDRs were read.
+    pub(crate) fn set_up(control: u8, format: u8) -> Chip {
+        let mut chip = Chip::new();
+        for side in Side::BOTH {
+            let channel = chip.channels.at_mut(side);
+            channel.write_control(control);
+            channel.write_control(format);
+            channel.read_data();
+        }
+        chip
+    }
+
     // A reset of both channels.
     pub fn reset(&mut self) {
-        self.one.reset();
-        self.two.reset();
+        self.channels.one.reset();
+        self.channels.two.reset();
     }
 
-    // The channel of a side.
-    fn at(&mut self, side: Side) -> &mut Channel {
-        match side {
-            Side::One => &mut self.one,
-            Side::Two => &mut self.two,
+    // Ends a read.
+    pub fn read(&mut self, access: Access) -> Result<ReadOut, Refusal> {
+        let channel = self.channels.at_mut(access.side);
+        match access.register {
+            Register::Interrupt => Ok(channel.read_interrupts()),
+            Register::Control => Ok(channel.read_status()),
+            Register::Auxiliary => Err(Refusal::NothingToRead),
+            Register::Data => Ok(channel.read_data()),
         }
     }
 
-    // Ends a read, or answers refusal 2.
-    pub fn read(&mut self, access: Access) -> Result<ReadOut, u8> {
-        let channel = self.at(access.side);
-        match access.address {
-            0 => Ok(channel.read_interrupts()),
-            1 => Ok(channel.read_status()),
-            3 => Ok(channel.read_data()),
-            _ => Err(2),
+    // Ends a write. Only a write to TDR has a note.
+    pub fn write(&mut self, access: Access, byte: u8) -> Option<WriteNote> {
+        let channel = self.channels.at_mut(access.side);
+        match access.register {
+            Register::Interrupt => channel.write_interrupts(byte),
+            Register::Control => channel.write_control(byte),
+            Register::Auxiliary => channel.write_auxiliary(byte),
+            Register::Data => return Some(channel.write_data(byte)),
         }
-    }
-
-    // Ends a write.
-    pub fn write(&mut self, access: Access, byte: u8) -> Note {
-        let channel = self.at(access.side);
-        match access.address {
-            0 => channel.write_interrupts(byte),
-            1 => channel.write_control(byte),
-            2 => channel.write_auxiliary(byte),
-            _ => return channel.write_data(byte),
-        }
-        Note::Plain
+        None
     }
 
     // A level of a modem input.
     pub fn modem(&mut self, side: Side, input: Input, high: bool) {
-        self.at(side).modem(input, high);
+        self.channels.at_mut(side).modem(input, high);
     }
 
-    // One cycle. It answers for channel 1 and for channel 2.
-    pub fn cycle(&mut self, pins: Pins) -> (Answer, Answer) {
-        let one = self.one.cycle(pins.rxd1, pins.rxc, pins.txc);
-        let two = self.two.cycle(pins.rxd2, pins.rxc, pins.txc);
-        (self.answer(Side::One, one), self.answer(Side::Two, two))
+    // One cycle.
+    pub fn cycle(&mut self, pins: Pins) -> Both<Answer> {
+        Both {
+            one: self.cycle_of(Side::One, pins),
+            two: self.cycle_of(Side::Two, pins),
+        }
     }
 
-    fn answer(&self, side: Side, report: Report) -> Answer {
+    fn cycle_of(&mut self, side: Side, pins: Pins) -> Answer {
+        let channel = self.channels.at_mut(side);
+        let report = channel.cycle(
+            *pins.rxd.at(side),
+            Ticks {
+                receiver: pins.rxc,
+                transmitter: pins.txc,
+            },
+        );
         Answer {
-            txd: self.txd(side),
-            irq: self.irq(side),
+            txd: channel.txd(),
+            irq: channel.irq(),
             report,
         }
     }
 
     // The level of TxD.
     pub fn txd(&self, side: Side) -> bool {
-        match side {
-            Side::One => self.one.txd(),
-            Side::Two => self.two.txd(),
-        }
+        self.channels.at(side).txd()
     }
 
     // The level of IRQ.
     pub fn irq(&self, side: Side) -> bool {
-        match side {
-            Side::One => self.one.irq(),
-            Side::Two => self.two.irq(),
-        }
+        self.channels.at(side).irq()
     }
 
     // What the calls do not show.
-    pub fn view(&self, side: Side) -> View {
-        match side {
-            Side::One => self.one.view(),
-            Side::Two => self.two.view(),
-        }
+    pub fn view(&self, side: Side) -> View<'_> {
+        self.channels.at(side).view()
     }
 }

@@ -9,69 +9,70 @@ const RATES: [u32; 15] = [
 // Ticks in a second at one baud, in hundredths: 3,686,400 / 16.
 const TICKS: u32 = 23_040_000;
 
-// The rate code that stands for the inputs RxC and TxC.
-const OUTSIDE: u8 = 15;
-
 // Which parts of a channel tick in a cycle.
-#[derive(Clone, Copy)]
+#[derive(Clone, Copy, PartialEq, Eq, Debug)]
 pub struct Ticks {
     pub receiver: bool,
     pub transmitter: bool,
 }
 
-// Counts the cycles down to the next tick.
+// Gives the ticks of a rate code. The code without a rate takes those of the inputs RxC and TxC.
 #[derive(Drop)]
 pub struct Clock {
     code: u8,
+    countdown: Option<Countdown>,
+}
+
+// Counts the cycles down to the next tick.
+#[derive(Clone, Copy, PartialEq, Eq, Debug)]
+struct Countdown {
     period: u32,
     left: u32,
 }
 
-// The cycles of a tick, to the nearest whole number.
-fn period_of(code: u8) -> u32 {
-    let rate = RATES.get(code as usize).copied().unwrap_or(1);
-    TICKS
-        .saturating_add(rate / 2)
-        .checked_div(rate)
-        .unwrap_or(1)
+// The cycles of a tick, to the nearest whole number, if the code has a rate.
+fn period_of(code: u8) -> Option<u32> {
+    let rate = *RATES.get(usize::from(code))?;
+    (TICKS + rate / 2).checked_div(rate)
+}
+
+impl Countdown {
+    // One cycle. It answers whether the tick is due.
+    fn cycle(&mut self) -> bool {
+        self.left = self.left.saturating_sub(1);
+        let due = self.left == 0;
+        if due {
+            self.left = self.period;
+        }
+        due
+    }
 }
 
 impl Clock {
-    // The clock at power on, with rate code 0.
-    pub(crate) fn new() -> Clock {
-        let period = period_of(0);
+    // The clock that begins to count with a rate code.
+    pub(crate) fn with_code(code: u8) -> Clock {
         Clock {
-            code: 0,
-            period,
-            left: period,
+            code,
+            countdown: period_of(code).map(|period| Countdown {
+                period,
+                left: period,
+            }),
         }
     }
 
     // Takes a rate code. The count begins again only if the code is another one.
     pub(crate) fn set_code(&mut self, code: u8) {
         if code != self.code {
-            let period = period_of(code);
-            *self = Clock {
-                code,
-                period,
-                left: period,
-            };
+            *self = Clock::with_code(code);
         }
     }
 
-    // One cycle.
-    pub(crate) fn cycle(&mut self, rxc: bool, txc: bool) -> Ticks {
-        if self.code == OUTSIDE {
-            return Ticks {
-                receiver: rxc,
-                transmitter: txc,
-            };
-        }
-        self.left = self.left.saturating_sub(1);
-        let due = self.left == 0;
-        if due {
-            self.left = self.period;
-        }
+    // One cycle, given what RxC and TxC mark.
+    pub(crate) fn cycle(&mut self, marks: Ticks) -> Ticks {
+        let Some(countdown) = &mut self.countdown else {
+            return marks;
+        };
+        let due = countdown.cycle();
         Ticks {
             receiver: due,
             transmitter: due,

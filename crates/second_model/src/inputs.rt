@@ -1,7 +1,7 @@
 // The modem inputs of a channel.
 
 // The modem inputs.
-#[derive(Clone, Copy)]
+#[derive(Clone, Copy, PartialEq, Eq, Debug)]
 pub enum Input {
     Cts,
     Dcd,
@@ -9,26 +9,36 @@ pub enum Input {
 }
 
 // A level, and whether it has changed since ISR was read.
-#[derive(Drop)]
+#[derive(Clone, Copy, PartialEq, Eq, Debug, Default)]
 pub struct Watched {
     pub high: bool,
     pub changed: bool,
 }
 
-impl Watched {
-    // Low, and not changed.
-    pub(crate) fn low() -> Watched {
-        Watched {
-            high: false,
-            changed: false,
+// The three of a channel. At first they are low, and not changed.
+#[derive(Clone, Copy, PartialEq, Eq, Debug, Default)]
+pub struct ModemInputs([Watched; 3]);
+
+impl ModemInputs {
+    // What is known of an input.
+    pub(crate) fn at(&self, input: Input) -> Watched {
+        self.0[input as usize]
+    }
+
+    // Gives a level to an input.
+    pub(crate) fn set(&mut self, input: Input, high: bool) {
+        if self.at(input).high != high {
+            self.0[input as usize] = Watched {
+                high,
+                changed: true,
+            };
         }
     }
 
-    // Takes a level.
-    pub(crate) fn set(&mut self, high: bool) {
-        if self.high != high {
-            self.high = high;
-            self.changed = true;
+    // Forgets the changes.
+    pub(crate) fn clear_changes(&mut self) {
+        for watched in &mut self.0 {
+            watched.changed = false;
         }
     }
 }

@@ -1,9 +1,10 @@
 // A second model of the chip and of the board, and a second reader of scripts, written from
 // `docs/CHIP.md`, `docs/BOARD.md` and `docs/SCRIPT.md` alone.
-// It shares no code with the first model, and has no contracts: the program `trials` compares
-// the two models. No program compares the two readers yet.
+// It shares no code with the first model, and its public functions have no contracts: the program
+// `trials` compares the two models. No program compares the two readers yet.
 #![tactic(auto)]
 
+mod bits;
 mod board;
 mod channel;
 mod chip;
@@ -15,17 +16,20 @@ mod outcome;
 mod receiver;
 mod registers;
 mod script;
+mod side;
 mod sources;
 mod transmitter;
 mod words;
 
-pub use board::{Board, Event};
+pub use board::Board;
 pub use channel::View;
 pub use chip::{Access, Answer, Chip, Pins};
 pub use delay::Delay;
 pub use inputs::Input;
-pub use outcome::{Ending, Note, ReadOut, Report, Side};
+pub use outcome::{Event, ReadNote, ReadOut, Refusal, Report, SweepError, WriteNote};
 pub use receiver::Hearing;
-pub use script::{Misfit, Order, ScriptLine, ScriptText, read_text};
-pub use sources::Sources;
-pub use transmitter::Doing;
+pub use script::{Fault, Misfit, Order, ScriptError, ScriptLine, read_text};
+pub use side::{Both, Side};
+pub use sources::{Source, Sources};
+pub use transmitter::Transmitter;
+pub use words::ErrorFlags;

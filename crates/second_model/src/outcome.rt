@@ -1,52 +1,71 @@
 // What calls answer.
 
-// One of the two channels.
-#[derive(Clone, Copy)]
-pub enum Side {
-    One = 1,
-    Two = 2,
+use super::side::Side;
+use std::alloc::AllocError;
+use thiserror::Error;
+
+// The note of a read of RDR: whether its word was read before.
+#[derive(Clone, Copy, PartialEq, Eq, Debug)]
+pub enum ReadNote {
+    Fresh = 1,
+    Old = 2,
 }
 
-// What an access says besides its byte.
-#[derive(Clone, Copy)]
-pub enum Note {
-    Plain,
-    Fresh,
-    Old,
-    Stored,
-    Replaced,
+// The note of a write to TDR: whether it overwrote a word.
+#[derive(Clone, Copy, PartialEq, Eq, Debug)]
+pub enum WriteNote {
+    Stored = 1,
+    Replaced = 2,
 }
 
-// The answer of a read.
-#[derive(Clone, Copy)]
+// The answer of a read. Only a read of RDR has a note.
+#[derive(Clone, Copy, PartialEq, Eq, Debug)]
 pub struct ReadOut {
     pub byte: u8,
-    pub note: Note,
+    pub note: Option<ReadNote>,
 }
 
-// How a received frame ended; the numbers are those of the reports.
-#[derive(Clone, Copy)]
-pub enum Ending {
-    None = 0,
-    Break = 1,
-    Passed = 2,
-    Lost = 3,
-    Kept = 4,
+// What a receiver reports at the end of a frame, with the word of the frame.
+#[derive(Clone, Copy, PartialEq, Eq, Debug)]
+pub enum Report {
+    Break,
+    Passed(u8),
+    Lost(u8),
+    Kept(u8),
 }
 
-// What a receiver reports in a cycle.
-#[derive(Clone, Copy)]
-pub struct Report {
-    pub ending: Ending,
-    pub word: u8,
+// A report of a sweep.
+#[derive(Clone, Copy, PartialEq, Eq, Debug)]
+pub struct Event {
+    pub cycle: u32,
+    pub side: Side,
+    pub report: Report,
 }
 
-impl Report {
-    // The report of a cycle in which no frame ends.
-    pub(crate) fn silent() -> Report {
-        Report {
-            ending: Ending::None,
-            word: 0,
-        }
-    }
+// Why chip or board refuse a call, by the numbers of the refusals.
+#[derive(Clone, Copy, PartialEq, Eq, Debug, Error)]
+pub enum Refusal {
+    #[error("no register has this select")]
+    NoSuchSelect = 1,
+    #[error("there is nothing to read at this select")]
+    NothingToRead = 2,
+    #[error("the CR value has bit 7 set or rate code 15")]
+    BadControl = 3,
+    #[error("the FR value has bit 7 clear")]
+    BadFormat = 4,
+    #[error("a line holds a low level")]
+    LineNotQuiet = 5,
+    #[error("a sweep has 1 to 2048 cycles")]
+    BadSweepLength = 6,
+    #[error("a sweep needs room for two records in each cycle")]
+    TooFewRecords = 7,
+}
+
+// Why a sweep does not run to its end.
+#[derive(Debug, Drop, Error)]
+pub enum SweepError {
+    #[error(transparent)]
+    Refused(#[from] Refusal),
+    #[error(transparent)]
+    OutOfMemory(#[from(alloc)] AllocError),
 }

@@ -1,53 +1,102 @@
 // The receiver: it collects the levels that it samples until the first stop bit.
 
+use super::bits::number_of;
 use super::format::Layout;
+use arrayvec::ArrayVec;
 
 // What a receiver does.
-#[derive(Clone, Copy)]
+#[derive(Drop)]
 pub enum Hearing {
     Hunts,
-    Gathers,
+    Gathers(Gathering),
     Waits,
 }
 
+// A frame under way: its layout, the levels before the stop bit so far, and the ticks up to the next sample.
+#[derive(Drop)]
+pub struct Gathering {
+    layout: Layout,
+    samples: ArrayVec<bool, 10>,
+    to_sample: u8,
+}
+
+// A parity bit that was received.
+#[derive(Clone, Copy, PartialEq, Eq, Debug)]
+pub struct HeardParity {
+    pub bit: bool,
+    pub wrong: bool,
+}
+
 // A frame that was received up to its first stop bit.
-#[derive(Clone, Copy)]
+#[derive(Clone, Copy, PartialEq, Eq, Debug)]
 pub struct Heard {
     pub word: u8,
-    pub ones: u8,
-    pub parity_bit: bool,
+    pub parity: Option<HeardParity>,
     pub stop: bool,
     pub any_high: bool,
-    pub layout: Layout,
 }
 
 // The receiver of a channel.
 #[derive(Drop)]
 pub struct Receiver {
     hearing: Hearing,
-    layout: Layout,
-    samples: [bool; 12],
-    taken: usize,
-    to_sample: u8,
     false_starts: u32,
+}
+
+impl Gathering {
+    // A frame that begins.
+    fn new(layout: Layout) -> Gathering {
+        Gathering {
+            layout,
+            samples: ArrayVec::new(),
+            to_sample: 8,
+        }
+    }
+
+    // The layout of the frame.
+    pub(crate) fn layout(&self) -> Layout {
+        self.layout
+    }
+
+    // Takes one sample, and answers the frame if it was the stop bit. The next one is due 16 ticks later.
+    fn sample(&mut self, level: bool) -> Option<Heard> {
+        if self.samples.len() >= usize::from(self.layout.bits_before_stop()) {
+            return Some(self.heard(level));
+        }
+        self.samples.push(level);
+        self.to_sample = 16;
+        None
+    }
+
+    // Puts the samples together.
+    fn heard(&self, stop: bool) -> Heard {
+        let after_data = usize::from(self.layout.data_bits) + 1;
+        let word = number_of(self.samples.get(1..after_data).unwrap_or(&[]));
+        let parity_bit = self.samples.get(after_data).copied();
+        Heard {
+            word,
+            parity: self.layout.parity.zip(parity_bit).map(|(rule, bit)| HeardParity {
+                bit,
+                wrong: bit != rule.bit_for(word),
+            }),
+            stop,
+            any_high: stop || self.samples.contains(&true),
+        }
+    }
 }
 
 impl Receiver {
     // A receiver that hunts.
-    pub(crate) fn new(layout: Layout) -> Receiver {
+    pub(crate) fn new() -> Receiver {
         Receiver {
             hearing: Hearing::Hunts,
-            layout,
-            samples: [false; 12],
-            taken: 0,
-            to_sample: 0,
             false_starts: 0,
         }
     }
 
     // What it does.
-    pub(crate) fn hearing(&self) -> Hearing {
-        self.hearing
+    pub(crate) fn hearing(&self) -> &Hearing {
+        &self.hearing
     }
 
     // How many start bits turned out to be none.
@@ -55,30 +104,14 @@ impl Receiver {
         self.false_starts
     }
 
-    // The layout of the frame under way.
-    pub(crate) fn layout(&self) -> Layout {
-        self.layout
-    }
-
     // One tick with the level of RxD and the layout that is set now.
     pub(crate) fn tick(&mut self, level: bool, layout: Layout) -> Option<Heard> {
-        match self.hearing {
+        match &mut self.hearing {
             Hearing::Hunts => {
                 if !level {
-                    self.hearing = Hearing::Gathers;
-                    self.layout = layout;
-                    self.taken = 0;
-                    self.to_sample = 8;
+                    self.hearing = Hearing::Gathers(Gathering::new(layout));
                 }
                 None
-            }
-            Hearing::Gathers => {
-                self.to_sample = self.to_sample.saturating_sub(1);
-                if self.to_sample == 0 {
-                    self.sample(level)
-                } else {
-                    None
-                }
             }
             Hearing::Waits => {
                 if level {
@@ -86,59 +119,24 @@ impl Receiver {
                 }
                 None
             }
-        }
-    }
-
-    // Takes one sample. The next one is due 16 ticks later.
-    fn sample(&mut self, level: bool) -> Option<Heard> {
-        if self.taken == 0 && level {
-            self.false_starts = self.false_starts.wrapping_add(1);
-            self.hearing = Hearing::Hunts;
-            return None;
-        }
-        if let Some(place) = self.samples.get_mut(self.taken) {
-            *place = level;
-        }
-        let is_stop = self.taken == self.layout.bits_before_stop() as usize;
-        self.taken = self.taken.saturating_add(1);
-        self.to_sample = 16;
-        if !is_stop {
-            return None;
-        }
-        self.hearing = if level {
-            Hearing::Hunts
-        } else {
-            Hearing::Waits
-        };
-        Some(self.heard(level))
-    }
-
-    // Puts the samples together.
-    fn heard(&self, stop: bool) -> Heard {
-        let mut heard = Heard {
-            word: 0,
-            ones: 0,
-            parity_bit: false,
-            stop,
-            any_high: false,
-            layout: self.layout,
-        };
-        let mut weight = 1u8;
-        for (place, level) in self.samples.iter().take(self.taken).enumerate() {
-            let data_bits = self.layout.data_bits as usize;
-            if *level {
-                heard.any_high = true;
-            }
-            if place >= 1 && place <= data_bits {
-                if *level {
-                    heard.word |= weight;
-                    heard.ones = heard.ones.saturating_add(1);
+            Hearing::Gathers(frame) => {
+                frame.to_sample = frame.to_sample.saturating_sub(1);
+                if frame.to_sample > 0 {
+                    return None;
                 }
-                weight = weight.wrapping_mul(2);
-            } else if place == data_bits.saturating_add(1) && self.layout.parity.is_some() {
-                heard.parity_bit = *level;
+                if level && frame.samples.is_empty() {
+                    self.false_starts = self.false_starts.wrapping_add(1);
+                    self.hearing = Hearing::Hunts;
+                    return None;
+                }
+                let heard = frame.sample(level)?;
+                self.hearing = if level {
+                    Hearing::Hunts
+                } else {
+                    Hearing::Waits
+                };
+                Some(heard)
             }
         }
-        heard
     }
 }

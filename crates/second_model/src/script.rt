@@ -1,14 +1,15 @@
-// Scripts, read one byte at a time against the pattern of the line, from `docs/SCRIPT.md` alone.
+// Scripts, read line by line against the pattern of the line, from `docs/SCRIPT.md` alone.
 
 use crate::inputs::Input;
-use crate::outcome::Side;
+use crate::side::Side;
 use std::alloc::{AllocError, Global};
+use thiserror::Error;
 
 // The most bytes of a script.
 const MOST: usize = 16_384;
 
 // What a line of a script says.
-#[derive(Clone, Copy)]
+#[derive(Clone, Copy, PartialEq, Eq, Debug)]
 pub enum Order {
     Read(u8),
     Write(u8, u8),
@@ -18,177 +19,149 @@ pub enum Order {
 }
 
 // An order, and where its letter stands.
-#[derive(Clone, Copy)]
+#[derive(Clone, Copy, PartialEq, Eq, Debug)]
 pub struct ScriptLine {
     pub line: usize,
     pub column: usize,
     pub order: Order,
 }
 
+// What is wrong with a text, by the numbers of the faults.
+#[derive(Clone, Copy, PartialEq, Eq, Debug, Error)]
+pub enum Fault {
+    #[error("another first line")]
+    BadFirstLine = 8,
+    #[error("no line of a script")]
+    BadScript = 9,
+    #[error("more than {MOST} bytes")]
+    TooLong = 10,
+}
+
 // Why a text is no script, and where.
-#[derive(Clone, Copy)]
+#[derive(Clone, Copy, PartialEq, Eq, Debug, Error)]
+#[error("line {line}, column {column}: {fault}")]
 pub struct Misfit {
-    pub number: u8,
+    pub fault: Fault,
     pub line: usize,
     pub column: usize,
 }
 
-// What a text is.
-#[derive(Drop)]
-pub enum ScriptText {
-    Whole(Vec<ScriptLine>),
-    Broken(Misfit),
+// Why a text is not read to its end.
+#[derive(Debug, Drop, Error)]
+pub enum ScriptError {
+    #[error(transparent)]
+    Misfit(#[from] Misfit),
+    #[error(transparent)]
+    OutOfMemory(#[from(alloc)] AllocError),
 }
 
-// The pattern of the first line, and of a line that begins with a letter: empty if no line does.
-// In a pattern a small letter stands for the bytes of its alphabet, any other byte for itself.
-const FIRST_LINE: &[u8] = b"DUS 0001\n";
-
-fn pattern(letter: u8) -> &'static [u8] {
-    match letter {
-        b'R' => b"R r\n",
-        b'W' => b"W r bb\n",
-        b'C' => b"C nnnz\n",
-        b'L' => b"L c m v\n",
-        b'S' => b"S bb bb\n",
-        _ => b"",
-    }
-}
-
-// The bytes that a small letter of a pattern stands for, in the order of their values.
-fn alphabet(mark: u8) -> &'static [u8] {
+// Whether a byte fits a mark of a pattern. A small letter stands for the bytes that it names here, any other mark for
+// itself. Marks are letters and no enum, so that a pattern looks like its line in `docs/SCRIPT.md`.
+fn fits(mark: u8, byte: u8) -> bool {
     match mark {
-        b'r' => b"01234567",
-        b'b' | b'n' | b'z' => b"0123456789ABCDEF",
-        b'c' => b"12",
-        b'm' => b"CDS",
-        b'v' => b"01",
-        _ => b"",
+        b'r' => matches!(byte, b'0'..=b'7'),
+        b'b' => matches!(byte, b'0'..=b'9' | b'A'..=b'F'),
+        b'p' => matches!(byte, b'1'..=b'9' | b'A'..=b'F'),
+        b'c' => matches!(byte, b'1' | b'2'),
+        b'm' => matches!(byte, b'C' | b'D' | b'S'),
+        b'v' => matches!(byte, b'0' | b'1'),
+        _ => byte == mark,
     }
 }
 
-fn low_byte(number: u16) -> u8 {
-    (number & 0xff) as u8
+// The bytes of a line that fits a pattern, or else the column of the first byte, or of the end, that does not.
+fn fitting<const N: usize>(pattern: &[u8; N], line: &[u8]) -> Result<[u8; N], usize> {
+    let misfit = line
+        .iter()
+        .zip(pattern)
+        .position(|(byte, mark)| !fits(*mark, *byte));
+    match misfit {
+        Some(place) => Err(place + 1),
+        None => <[u8; N]>::try_from(line).map_err(|_| line.len() + 1),
+    }
 }
 
-// The order of a line, from its letter and its values as the digits of one hexadecimal number.
-fn order_of(letter: u8, number: u16) -> Option<Order> {
-    let high = low_byte(number >> 8);
-    let low = low_byte(number);
-    match letter {
-        b'R' => Some(Order::Read(low)),
-        b'W' => Some(Order::Write(high, low)),
-        b'C' => Some(Order::Cycles(number)),
-        b'S' => Some(Order::SetUp(high, low)),
-        b'L' => {
-            let side = if high == 0 { Side::One } else { Side::Two };
-            let input = match low >> 4 {
-                0 => Input::Cts,
-                1 => Input::Dcd,
+// The value of a digit.
+fn digit(byte: u8) -> u8 {
+    char::from(byte).to_digit(16).unwrap_or(0) as u8
+}
+
+// The value of two digits.
+fn byte_of(high: u8, low: u8) -> u8 {
+    digit(high) << 4 | digit(low)
+}
+
+// The order of a line, or the column that does not fit.
+fn order_of(line: &[u8]) -> Result<Order, usize> {
+    match line.first() {
+        Some(b'R') => {
+            let [_, _, select, _] = fitting(b"R r\n", line)?;
+            Ok(Order::Read(digit(select)))
+        }
+        Some(b'W') => {
+            let [_, _, select, _, high, low, _] = fitting(b"W r bb\n", line)?;
+            Ok(Order::Write(digit(select), byte_of(high, low)))
+        }
+        Some(b'C') => {
+            // the number is not 0
+            let pattern = if line.starts_with(b"C 000") {
+                b"C 000p\n"
+            } else {
+                b"C bbbb\n"
+            };
+            let [_, _, a, b, c, d, _] = fitting(pattern, line)?;
+            Ok(Order::Cycles(u16::from_be_bytes([byte_of(a, b), byte_of(c, d)])))
+        }
+        Some(b'L') => {
+            let [_, _, channel, _, input, _, level, _] = fitting(b"L c m v\n", line)?;
+            let side = if channel == b'1' {
+                Side::One
+            } else {
+                Side::Two
+            };
+            let input = match input {
+                b'C' => Input::Cts,
+                b'D' => Input::Dcd,
                 _ => Input::Dsr,
             };
-            Some(Order::Level(side, input, low & 15 == 1))
+            Ok(Order::Level(side, input, level == b'1'))
         }
-        _ => None,
-    }
-}
-
-// How far a text is read: the place of the next byte, the pattern of its line and how much of it is
-// met, the values of the line so far, and the lines before it.
-#[derive(Drop)]
-struct Machine {
-    line: usize,
-    column: usize,
-    pattern: &'static [u8],
-    met: usize,
-    number: u16,
-    lines: Vec<ScriptLine>,
-}
-
-impl Machine {
-    // Takes a byte, and answers whether it fits.
-    fn take(&mut self, byte: u8) -> Result<bool, AllocError> {
-        if self.met >= self.pattern.len() {
-            self.pattern = pattern(byte);
-            self.met = 0;
-            self.number = 0;
+        Some(b'S') => {
+            let [_, _, a, b, _, c, d, _] = fitting(b"S bb bb\n", line)?;
+            Ok(Order::SetUp(byte_of(a, b), byte_of(c, d)))
         }
-        let Some(mark) = self.pattern.get(self.met) else {
-            return Ok(false);
-        };
-        if !self.fits(*mark, byte) {
-            return Ok(false);
-        }
-        self.met = self.met.saturating_add(1);
-        self.column = self.column.saturating_add(1);
-        if byte == b'\n' {
-            self.end_line()?;
-        }
-        Ok(true)
-    }
-
-    // Whether a byte fits a mark; its value is added to those of the line.
-    fn fits(&mut self, mark: u8, byte: u8) -> bool {
-        let mut value = 0u16;
-        for known in alphabet(mark) {
-            if *known == byte {
-                self.number = self.number << 4 | value;
-                return mark != b'z' || self.number != 0;
-            }
-            value = value.saturating_add(1);
-        }
-        mark == byte && !mark.is_ascii_lowercase()
-    }
-
-    // Keeps the order of a whole line; the first line has none.
-    fn end_line(&mut self) -> Result<(), AllocError> {
-        let letter = self.pattern.first().copied().unwrap_or(0);
-        if let Some(order) = order_of(letter, self.number) {
-            self.lines.push(ScriptLine {
-                line: self.line,
-                column: 1,
-                order,
-            })?;
-        }
-        self.line = self.line.saturating_add(1);
-        self.column = 1;
-        Ok(())
-    }
-
-    // The fault of a byte, or of the end, at the place that is reached.
-    fn broken(&self) -> ScriptText {
-        ScriptText::Broken(Misfit {
-            number: if self.line == 1 { 8 } else { 9 },
-            line: self.line,
-            column: self.column,
-        })
+        _ => Err(1),
     }
 }
 
 // Reads a text.
-pub fn read_text(heap: Global, text: &[u8]) -> Result<ScriptText, AllocError> {
+pub fn read_text(alloc: Global, text: &[u8]) -> Result<Vec<ScriptLine>, ScriptError> {
     if text.len() > MOST {
-        return Ok(ScriptText::Broken(Misfit {
-            number: 10,
+        return Err(Misfit {
+            fault: Fault::TooLong,
             line: 0,
             column: 0,
-        }));
-    }
-    let mut machine = Machine {
-        line: 1,
-        column: 1,
-        pattern: FIRST_LINE,
-        met: 0,
-        number: 0,
-        lines: Vec::new(heap),
-    };
-    for byte in text {
-        if !machine.take(*byte)? {
-            return Ok(machine.broken());
         }
+        .into());
     }
-    if machine.met < machine.pattern.len() {
-        return Ok(machine.broken());
+    let mut lines = text.split_inclusive(|byte| *byte == b'\n');
+    fitting(b"DUS 0001\n", lines.next().unwrap_or(&[])).map_err(|column| Misfit {
+        fault: Fault::BadFirstLine,
+        line: 1,
+        column,
+    })?;
+    let mut script = Vec::new(alloc);
+    for (line, bytes) in (2..).zip(lines) {
+        let order = order_of(bytes).map_err(|column| Misfit {
+            fault: Fault::BadScript,
+            line,
+            column,
+        })?;
+        script.push(ScriptLine {
+            line,
+            column: 1,
+            order,
+        })?;
     }
-    Ok(ScriptText::Whole(machine.lines))
+    Ok(script)
 }

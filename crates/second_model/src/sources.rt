@@ -1,143 +1,100 @@
 // The seven interrupt sources as sets, and the requests that they raise.
 
-// A set of interrupt sources: each field says whether that source is in it.
-#[derive(Clone, Copy)]
-pub struct Sources {
-    pub tdre: bool,
-    pub ctst: bool,
-    pub dcdt: bool,
-    pub dsrt: bool,
-    pub par: bool,
-    pub fob: bool,
-    pub rdrf: bool,
+use super::bits::number_of;
+
+// The interrupt sources, from bit 0 of ISR up.
+#[derive(Clone, Copy, PartialEq, Eq, Debug)]
+pub enum Source {
+    Rdrf,
+    Fob,
+    Par,
+    Dsrt,
+    Dcdt,
+    Ctst,
+    Tdre,
 }
 
+impl Source {
+    // All of them, in the order of their bits.
+    const ALL: [Source; 7] = [
+        Source::Rdrf,
+        Source::Fob,
+        Source::Par,
+        Source::Dsrt,
+        Source::Dcdt,
+        Source::Ctst,
+        Source::Tdre,
+    ];
+}
+
+// A set of interrupt sources: for each source, whether it is in the set.
+#[derive(Clone, Copy, PartialEq, Eq, Debug, Default)]
+pub struct Sources([bool; 7]);
+
 impl Sources {
-    // The empty set.
-    pub(crate) fn none() -> Sources {
-        Sources::named_by(0)
+    // The sources that pass a test.
+    pub(crate) fn that<F: Fn(Source) -> bool>(test: F) -> Sources
+        requires { F.IsAlwaysCallable test }
+    {
+        Sources(Source::ALL.map(test))
     }
 
     // The sources that bits 6-0 of a byte name.
     pub(crate) fn named_by(byte: u8) -> Sources {
-        Sources {
-            tdre: byte & 0x40 != 0,
-            ctst: byte & 0x20 != 0,
-            dcdt: byte & 0x10 != 0,
-            dsrt: byte & 0x08 != 0,
-            par: byte & 0x04 != 0,
-            fob: byte & 0x02 != 0,
-            rdrf: byte & 0x01 != 0,
-        }
+        Sources::that(|source| byte >> source as u8 & 1 == 1)
     }
 
     // The set as bits 6-0 of a byte.
     pub fn byte(self) -> u8 {
-        let mut byte = 0u8;
-        if self.tdre {
-            byte |= 0x40;
-        }
-        if self.ctst {
-            byte |= 0x20;
-        }
-        if self.dcdt {
-            byte |= 0x10;
-        }
-        if self.dsrt {
-            byte |= 0x08;
-        }
-        if self.par {
-            byte |= 0x04;
-        }
-        if self.fob {
-            byte |= 0x02;
-        }
-        if self.rdrf {
-            byte |= 0x01;
-        }
-        byte
+        number_of(&self.0)
     }
 
-    // Puts the named sources in, or takes them out.
-    pub(crate) fn switch(&mut self, named: Sources, on: bool) {
-        if named.tdre {
-            self.tdre = on;
-        }
-        if named.ctst {
-            self.ctst = on;
-        }
-        if named.dcdt {
-            self.dcdt = on;
-        }
-        if named.dsrt {
-            self.dsrt = on;
-        }
-        if named.par {
-            self.par = on;
-        }
-        if named.fob {
-            self.fob = on;
-        }
-        if named.rdrf {
-            self.rdrf = on;
-        }
+    // Whether a source is in the set.
+    pub fn has(self, source: Source) -> bool {
+        self.0[source as usize]
     }
 
     // Whether any source is in the set.
     pub(crate) fn any(self) -> bool {
-        self.tdre || self.ctst || self.dcdt || self.dsrt || self.par || self.fob || self.rdrf
+        self != Sources::default()
     }
 }
 
-// Which sources may ask for an interrupt, and which do.
-#[derive(Drop)]
+// Which sources may ask for an interrupt, and which do. At first none.
+#[derive(Clone, Copy, PartialEq, Eq, Debug, Default)]
 pub struct Interrupts {
     pub enabled: Sources,
     pub requests: Sources,
 }
 
-// A request after an action: it stood and its bit is still set, or its bit has just risen and it is enabled.
-fn stands(stood: bool, was: bool, is: bool, enabled: bool) -> bool {
-    is && (stood || (enabled && !was))
-}
-
 impl Interrupts {
-    // Nothing enabled and nothing asked for.
-    pub(crate) fn none() -> Interrupts {
-        Interrupts {
-            enabled: Sources::none(),
-            requests: Sources::none(),
-        }
-    }
-
     // Drops all requests.
     pub(crate) fn drop_requests(&mut self) {
-        self.requests = Sources::none();
+        self.requests = Sources::default();
     }
 
-    // A write to IER.
+    // A write to IER: enables the named sources, or disables them and drops their requests.
     pub(crate) fn enable(&mut self, byte: u8) {
         let named = Sources::named_by(byte);
+        let Interrupts { enabled, requests } = *self;
         if byte >= 0x80 {
-            self.enabled.switch(named, true);
+            self.enabled = Sources::that(|source| enabled.has(source) || named.has(source));
         } else {
-            self.enabled.switch(named, false);
-            self.requests.switch(named, false);
+            self.enabled = Sources::that(|source| enabled.has(source) && !named.has(source));
+            self.requests = Sources::that(|source| requests.has(source) && !named.has(source));
         }
     }
 
-    // Compares the sources before and after an action. TDRE asks only where the transmitter took a word.
+    // Compares the sources before and after an action. A request stands where its bit is set and it stood before,
+    // or is enabled and has risen. TDRE asks only where the transmitter took a word.
     pub(crate) fn follow(&mut self, was: Sources, is: Sources, word_taken: bool) {
-        let on = self.enabled;
-        let old = self.requests;
-        self.requests = Sources {
-            tdre: is.tdre && (old.tdre || (word_taken && on.tdre)),
-            ctst: stands(old.ctst, was.ctst, is.ctst, on.ctst),
-            dcdt: stands(old.dcdt, was.dcdt, is.dcdt, on.dcdt),
-            dsrt: stands(old.dsrt, was.dsrt, is.dsrt, on.dsrt),
-            par: stands(old.par, was.par, is.par, on.par),
-            fob: stands(old.fob, was.fob, is.fob, on.fob),
-            rdrf: stands(old.rdrf, was.rdrf, is.rdrf, on.rdrf),
-        };
+        let Interrupts { enabled, requests } = *self;
+        self.requests = Sources::that(|source| {
+            let rises = match source {
+                Source::Tdre => word_taken,
+                _ => !was.has(source),
+            };
+            is.has(source) && (requests.has(source) || enabled.has(source) && rises)
+        });
     }
 }

@@ -1,155 +1,118 @@
 // The transmitter: a frame is a list of levels, each with the tick at which it begins.
 
 use super::format::Layout;
+use arrayvec::ArrayVec;
 
 // Ticks of a bit.
 const BIT: u16 = 16;
 
 // A level and the tick of the frame at which it begins.
-#[derive(Clone, Copy)]
+#[derive(Clone, Copy, PartialEq, Eq, Debug, Default)]
 struct TimedLevel {
     begin: u16,
     level: bool,
 }
 
-// What a transmitter does.
-#[derive(Clone, Copy)]
-pub enum Doing {
+// A frame that is sent, with the tick at which it ends, and the tick and the level that it has reached.
+#[derive(Drop)]
+pub struct Frame {
+    levels: ArrayVec<TimedLevel, 12>,
+    end: u16,
+    tick: u16,
+    level: bool,
+}
+
+// The transmitter of a channel, by what it does.
+#[derive(Drop)]
+pub enum Transmitter {
     Rests,
-    Sends,
-    Breaks,
+    Sends(Frame),
+    Breaks { tick: u16, end: u16 },
 }
 
 // What a transmitter could do next.
-#[derive(Clone, Copy)]
+#[derive(Clone, Copy, PartialEq, Eq, Debug)]
 pub struct Work {
     pub break_wanted: bool,
     pub word: Option<u8>,
     pub layout: Layout,
 }
 
-// The transmitter of a channel.
-#[derive(Drop)]
-pub struct Transmitter {
-    doing: Doing,
-    frame: [TimedLevel; 12],
-    current: usize,
-    tick: u16,
-    end: u16,
-    level: bool,
+impl Frame {
+    // The levels of a word: start, data from the lowest bit, parity, stops.
+    fn new(word: u8, layout: Layout) -> Frame {
+        let mut frame = Frame {
+            levels: ArrayVec::new(),
+            end: 0,
+            tick: 0,
+            level: false,
+        };
+        frame.push(false);
+        for bit in 0..layout.data_bits {
+            frame.push(word >> bit & 1 == 1);
+        }
+        if let Some(rule) = layout.parity {
+            frame.push(rule.bit_for(layout.cut(word)));
+        }
+        for _ in 0..layout.stop_bits {
+            frame.push(true);
+        }
+        frame
+    }
+
+    // Adds a level at the end. There is room: a frame has 12 at most.
+    fn push(&mut self, level: bool) {
+        let begin = self.end;
+        let _ = self.levels.try_push(TimedLevel { begin, level });
+        self.end = self.end.saturating_add(BIT);
+    }
+
+    // One tick. It answers whether the frame is done.
+    fn tick(&mut self) -> bool {
+        let tick = self.tick.saturating_add(1);
+        self.tick = tick;
+        if let Some(bit) = self.levels.iter().find(|bit| bit.begin == tick) {
+            self.level = bit.level;
+        }
+        tick >= self.end
+    }
 }
 
 impl Transmitter {
-    // A transmitter that rests.
-    pub(crate) fn new() -> Transmitter {
-        Transmitter {
-            doing: Doing::Rests,
-            frame: [TimedLevel {
-                begin: 0,
-                level: true,
-            }; 12],
-            current: 0,
-            tick: 0,
-            end: 0,
-            level: true,
-        }
-    }
-
     // The level of TxD.
     pub(crate) fn txd(&self) -> bool {
-        self.level
-    }
-
-    // What it does.
-    pub(crate) fn doing(&self) -> Doing {
-        self.doing
+        match self {
+            Transmitter::Rests => true,
+            Transmitter::Sends(frame) => frame.level,
+            Transmitter::Breaks { .. } => false,
+        }
     }
 
     // One tick. It answers whether the word was taken.
     pub(crate) fn tick(&mut self, work: Work) -> bool {
-        match self.doing {
-            Doing::Rests => self.choose(work),
-            Doing::Sends => {
-                self.tick = self.tick.saturating_add(1);
-                if self.tick >= self.end {
-                    return self.choose(work);
-                }
-                self.follow_frame();
-                false
-            }
-            Doing::Breaks => {
-                self.tick = self.tick.saturating_add(1).min(self.end);
-                if self.tick == self.end && !work.break_wanted {
-                    self.rest();
+        match self {
+            Transmitter::Rests => self.choose(work),
+            Transmitter::Sends(frame) => frame.tick() && self.choose(work),
+            Transmitter::Breaks { tick, end } => {
+                *tick = tick.saturating_add(1).min(*end);
+                if *tick == *end && !work.break_wanted {
+                    *self = Transmitter::Rests;
                 }
                 false
             }
         }
     }
 
-    // Goes on to the next level of the frame, if it begins now.
-    fn follow_frame(&mut self) {
-        let next = self.current.saturating_add(1);
-        if let Some(bit) = self.frame.get(next) {
-            if bit.begin == self.tick {
-                self.level = bit.level;
-                self.current = next;
-            }
-        }
-    }
-
-    fn rest(&mut self) {
-        self.doing = Doing::Rests;
-        self.level = true;
-    }
-
-    // Begins a break, a frame or a rest.
+    // Begins a break, a frame or a rest. It answers whether the word was taken.
     fn choose(&mut self, work: Work) -> bool {
-        if work.break_wanted {
-            self.doing = Doing::Breaks;
-            self.begin(work.layout);
-            return false;
-        }
-        let Some(word) = work.word else {
-            self.rest();
-            return false;
+        *self = match work.word {
+            _ if work.break_wanted => Transmitter::Breaks {
+                tick: 0,
+                end: BIT * u16::from(work.layout.bits()),
+            },
+            Some(word) => Transmitter::Sends(Frame::new(word, work.layout)),
+            None => Transmitter::Rests,
         };
-        self.doing = Doing::Sends;
-        self.begin(work.layout);
-        self.lay_out(word, work.layout);
-        true
-    }
-
-    fn begin(&mut self, layout: Layout) {
-        self.current = 0;
-        self.tick = 0;
-        self.end = BIT.saturating_mul(layout.bits() as u16);
-        self.level = false;
-    }
-
-    // Writes the levels of a frame: start, data from the lowest bit, parity, stops.
-    fn lay_out(&mut self, word: u8, layout: Layout) {
-        let mut rest = word;
-        let mut ones = 0u8;
-        let mut begin = 0u16;
-        for (place, bit) in self.frame.iter_mut().enumerate() {
-            let data_bits = layout.data_bits as usize;
-            let mut level = true;
-            if place == 0 {
-                level = false;
-            } else if place <= data_bits {
-                level = rest % 2 == 1;
-                rest = rest / 2;
-                if level {
-                    ones = ones.saturating_add(1);
-                }
-            } else if place == data_bits.saturating_add(1) {
-                if let Some(rule) = layout.parity {
-                    level = rule.bit_for(ones);
-                }
-            }
-            *bit = TimedLevel { begin, level };
-            begin = begin.saturating_add(BIT);
-        }
+        matches!(self, Transmitter::Sends(_))
     }
 }
