@@ -24,11 +24,4 @@ impl<T> Channels<T> {
             ChannelId::Two => &mut self.two,
         }
     }
-
-    // Whether the value of one of them passes a test.
-    pub(crate) fn any<F: Fn(&T) -> bool>(&self, test: F) -> bool
-        requires { F.IsAlwaysCallable test }
-    {
-        test(&self.one) || test(&self.two)
-    }
 }

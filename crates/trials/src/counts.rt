@@ -5,8 +5,6 @@ use crate::call::Call;
 use crate::channels::Channels;
 use crate::state::State;
 use dacia::access::Place;
-use dacia::chip::ChipAnswer;
-use second_model::Source;
 use std::alloc::{AllocError, Global};
 use terms::channel_id::ChannelId;
 use terms::note::{ReadNote, Reading, WriteNote};
@@ -45,6 +43,80 @@ pub(crate) enum Event {
     Sweep,
     TwoRecordsOfCycle,
 }
+
+// The facts of a channel whose changes are counted, with the names of their beginnings and their ends.
+const CHANGES: [(State, &str, &str); 26] = [
+    (
+        State::REQUEST_RDRF,
+        "request RDRF raised",
+        "request RDRF dropped",
+    ),
+    (
+        State::REQUEST_FOB,
+        "request F/O/B raised",
+        "request F/O/B dropped",
+    ),
+    (
+        State::REQUEST_PAR,
+        "request PAR raised",
+        "request PAR dropped",
+    ),
+    (
+        State::REQUEST_DSRT,
+        "request DSRT raised",
+        "request DSRT dropped",
+    ),
+    (
+        State::REQUEST_DCDT,
+        "request DCDT raised",
+        "request DCDT dropped",
+    ),
+    (
+        State::REQUEST_CTST,
+        "request CTST raised",
+        "request CTST dropped",
+    ),
+    (
+        State::REQUEST_TDRE,
+        "request TDRE raised",
+        "request TDRE dropped",
+    ),
+    (State::RDRF, "RDRF set", "RDRF cleared"),
+    (State::FOB, "F/O/B set", "F/O/B cleared"),
+    (State::PAR, "PAR set", "PAR cleared"),
+    (State::DSRT, "DSRT set", "DSRT cleared"),
+    (State::DCDT, "DCDT set", "DCDT cleared"),
+    (State::CTST, "CTST set", "CTST cleared"),
+    (State::TDRE, "TDRE set", "TDRE cleared"),
+    (State::FE, "FE set", "FE cleared"),
+    (State::OVR, "OVR set", "OVR cleared"),
+    (State::BRK, "BRK set", "BRK cleared"),
+    (State::ASLEEP, "receiver falls asleep", "receiver wakes"),
+    (State::TDR_FULL, "TDR filled", "TDR emptied"),
+    (
+        State::SENDS,
+        "frame sent from rest or after a break",
+        "transmitter stops sending",
+    ),
+    (State::BREAKS, "break sent", "transmitter stops a break"),
+    (
+        State::GATHERS,
+        "receiver begins to gather",
+        "receiver stops gathering",
+    ),
+    (
+        State::WAITS,
+        "receiver begins to wait",
+        "receiver stops waiting",
+    ),
+    (
+        State::OTHER_FORMAT,
+        "CR or FR changed in a received frame",
+        "frame of another format ends",
+    ),
+    (State::TUR, "TUR set", "TUR cleared"),
+    (State::SHOWS_PARITY, "ACR bit 0 set", "ACR bit 0 cleared"),
+];
 
 // The events, with their names.
 const EVENTS: [(Event, &str); 42] = [
@@ -132,6 +204,7 @@ pub(crate) struct Count {
 // How often a fact of a channel has begun, and how often it has ended.
 #[derive(Clone, Copy, PartialEq, Eq, Debug)]
 struct Change {
+    fact: State,
     begins: Count,
     ends: Count,
 }
@@ -163,9 +236,10 @@ impl Count {
 impl Counts {
     pub(crate) fn new() -> Counts {
         Counts {
-            changes: State::default().facts().map(|fact| Change {
-                begins: Count::new(fact.begins),
-                ends: Count::new(fact.ends),
+            changes: CHANGES.map(|(fact, begins, ends)| Change {
+                fact,
+                begins: Count::new(begins),
+                ends: Count::new(ends),
             }),
             events: EVENTS.map(|(event, name)| Seen {
                 event,
@@ -198,34 +272,32 @@ impl Counts {
     }
 
     // Counts what has changed in a channel.
-    fn change(&mut self, was: &State, is: &State) {
-        let facts = was.facts().into_iter().zip(is.facts());
-        for (change, (was, is)) in self.changes.iter_mut().zip(facts) {
-            match (was.holds, is.holds) {
-                (false, true) => change.begins.add(),
-                (true, false) => change.ends.add(),
-                _ => {}
+    fn change(&mut self, was: State, is: State) {
+        let begun = is.difference(was);
+        let ended = was.difference(is);
+        for change in &mut self.changes {
+            if begun.contains(change.fact) {
+                change.begins.add();
+            }
+            if ended.contains(change.fact) {
+                change.ends.add();
             }
         }
-        self.see(Event::FalseStart, was.false_start != is.false_start);
+        self.see(
+            Event::FalseStart,
+            begun.union(ended).contains(State::FALSE_START),
+        );
     }
 
-    // Counts a cycle: its answers, and the states before it and after it.
+    // Counts a cycle of a channel: its report, and the states before it and after it.
     pub(crate) fn cycle(
         &mut self,
-        answer: ChipAnswer,
-        was: &Channels<State>,
-        is: &Channels<State>,
+        channel: ChannelId,
+        report: Option<Report>,
+        was: State,
+        is: State,
     ) {
-        self.channel(ChannelId::One, answer.one.report, &was.one, &is.one);
-        self.channel(ChannelId::Two, answer.two.report, &was.two, &is.two);
-    }
-
-    // The same for one channel.
-    fn channel(&mut self, channel: ChannelId, report: Option<Report>, was: &State, is: &State) {
-        if was != is {
-            self.change(was, is);
-        }
+        self.change(was, is);
         if let Some(Report { kind, word: _ }) = report {
             self.see(Event::Report(channel, kind), true);
             self.ending(kind, was, is);
@@ -233,21 +305,26 @@ impl Counts {
     }
 
     // Counts the rare cases of an ending.
-    fn ending(&mut self, kind: ReportKind, was: &State, is: &State) {
+    fn ending(&mut self, kind: ReportKind, was: State, is: State) {
         let broken = kind == ReportKind::Break;
         let passed = kind == ReportKind::Passed;
         let kept = kind == ReportKind::Kept;
-        let shows = was.shows_parity;
-        let parity_before = was.flags.has(Source::Par);
-        let parity = is.flags.has(Source::Par);
-        let fault_cleared = was.flags.has(Source::Fob) && !is.flags.has(Source::Fob);
-        self.see(Event::BreakAsleep, broken && was.asleep);
-        self.see(Event::BreakWhileFull, broken && was.flags.has(Source::Rdrf));
-        self.see(Event::PassedWithLowStop, passed && is.waits);
-        self.see(Event::PassedAndWakes, passed && !is.asleep);
-        self.see(Event::KeptWithLowStop, kept && is.errors.framing);
-        self.see(Event::KeptClearsParity, kept && parity_before && !parity);
-        self.see(Event::KeptClearsFault, kept && fault_cleared);
+        let cleared = was.difference(is);
+        let shows = was.contains(State::SHOWS_PARITY);
+        let parity = is.contains(State::PAR);
+        self.see(Event::BreakAsleep, broken && was.contains(State::ASLEEP));
+        self.see(Event::BreakWhileFull, broken && was.contains(State::RDRF));
+        self.see(
+            Event::PassedWithLowStop,
+            passed && is.contains(State::WAITS),
+        );
+        self.see(Event::PassedAndWakes, passed && !is.contains(State::ASLEEP));
+        self.see(Event::KeptWithLowStop, kept && is.contains(State::FE));
+        self.see(
+            Event::KeptClearsParity,
+            kept && cleared.contains(State::PAR),
+        );
+        self.see(Event::KeptClearsFault, kept && cleared.contains(State::FOB));
         self.see(Event::WrongParityBit, kept && !shows && parity);
         self.see(Event::ShownParityBit, kept && shows && parity);
         self.see(Event::ShownParityZero, kept && shows && !parity);
@@ -258,9 +335,10 @@ impl Counts {
         &mut self,
         call: Call,
         answer: Answer,
-        was: &Channels<State>,
-        is: &Channels<State>,
+        was: Channels<State>,
+        is: Channels<State>,
     ) {
+        let either = was.one.union(was.two);
         if let Some(refusal) = answer.refusal() {
             self.see(Event::Refusal(refusal), true);
         }
@@ -286,35 +364,35 @@ impl Counts {
             }
             (Call::Held { span, .. }, _) => self.see(Event::HeldAccess, span > 0),
             (Call::Reset, _) => {
-                self.see(Event::ResetWhileSending, was.any(|state| state.sends));
-                self.see(Event::ResetWhileBreaking, was.any(|state| state.breaks));
-                self.see(Event::ResetWhileGathering, was.any(|state| state.gathers));
+                self.see(Event::ResetWhileSending, either.contains(State::SENDS));
+                self.see(Event::ResetWhileBreaking, either.contains(State::BREAKS));
+                self.see(Event::ResetWhileGathering, either.contains(State::GATHERS));
             }
             (Call::Modem(channel, _, _), _) => {
-                let was = was.at(channel).flags.has(Source::Tdre);
-                let is = is.at(channel).flags.has(Source::Tdre);
-                self.see(Event::CtsFall, !was && is);
+                let begun = is.at(channel).difference(*was.at(channel));
+                self.see(Event::CtsFall, begun.contains(State::TDRE));
             }
             (Call::SetUp(_, _), Answer::SetUp(Ok(()))) => {
                 self.see(Event::SetUp, true);
-                self.see(Event::SetUpWhileSending, was.any(|state| state.sends));
+                self.see(Event::SetUpWhileSending, either.contains(State::SENDS));
             }
             (Call::Sweep { .. }, Answer::Sweep(Ok(_))) => self.see(Event::Sweep, true),
             _ => {}
         }
         // a set-up puts in another chip, which has not changed
         if !matches!(call, Call::SetUp(_, _)) {
-            self.change(&was.one, &is.one);
-            self.change(&was.two, &is.two);
+            self.change(was.one, is.one);
+            self.change(was.two, is.two);
         }
     }
 
     // Counts a write to CR, FR, CDR or ACR in the middle of a frame.
-    fn setting(&mut self, select: u8, was: &Channels<State>) {
+    fn setting(&mut self, select: u8, was: Channels<State>) {
         let Ok(Place { channel, register }) = Place::try_from(select) else {
             return;
         };
-        let State { sends, gathers, .. } = *was.at(channel);
+        let sends = was.at(channel).contains(State::SENDS);
+        let gathers = was.at(channel).contains(State::GATHERS);
         match register {
             Register::Control => {
                 self.see(Event::SettingWhileSending, sends);

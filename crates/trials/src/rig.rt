@@ -6,15 +6,16 @@ use crate::channels::Channels;
 use crate::counts::{Counts, Event};
 use crate::played::{First, Second};
 use crate::records;
-use crate::second::txd;
+use crate::second::{side, txd};
 use crate::state::State;
 use crate::stop::{Place, Stop};
 use dacia::access::{ReadAccess, WriteAccess};
 use dacia::chip::Inputs;
-use second_model::{Chip, Side};
+use second_model::Chip;
 use std::alloc::Global;
 use std::mem;
 use terms::channel_id::ChannelId;
+use terms::report::Report;
 
 #[derive(Drop)]
 pub(crate) struct Rig<'a, F, S> {
@@ -29,11 +30,14 @@ pub(crate) struct Rig<'a, F, S> {
     neighbours: bool,
 }
 
-// The states of the channels.
+fn state(chip: &Chip, channel: ChannelId) -> State {
+    chip.view(side(channel)).into()
+}
+
 fn states(chip: &Chip) -> Channels<State> {
     Channels {
-        one: chip.view(Side::One).into(),
-        two: chip.view(Side::Two).into(),
+        one: state(chip, ChannelId::One),
+        two: state(chip, ChannelId::Two),
     }
 }
 
@@ -102,19 +106,19 @@ impl<'a, F: First, S: Second> Rig<'a, F, S> {
 
     // The end of a call: compares the levels, and counts.
     fn end(&mut self, call: Call, answer: Answer) -> Result<(), Stop> {
-        let was = self.next_states()?;
-        self.counts.call(call, answer, &was, &self.states);
+        self.same_levels()?;
+        let is = states(self.second.chip());
+        let was = mem::replace(&mut self.states, is);
+        self.counts.call(call, answer, was, is);
         self.counts.see(Event::TwoRecordsOfCycle, self.neighbours);
         self.counts.made(F::ALONE);
         Ok(())
     }
 
-    // Compares the levels, looks at the states, and answers what they were before.
-    fn next_states(&mut self) -> Result<Channels<State>, Stop> {
+    fn same_levels(&self) -> Result<(), Stop> {
         self.place
             .same(Answer::Levels, self.first.levels(), self.second.levels())?;
-        let is = states(self.second.chip());
-        Ok(mem::replace(&mut self.states, is))
+        Ok(())
     }
 
     // A read and a write at a select that are opened, and ended after other calls.
@@ -161,10 +165,21 @@ impl<'a, F: First, S: Second> Rig<'a, F, S> {
         let two = |answer| Answer::Cycle(ChannelId::Two, answer);
         self.place.same(one, first.one, second.one)?;
         self.place.same(two, first.two, second.two)?;
-        let was = self.next_states()?;
-        self.counts.cycle(first, &was, &self.states);
+        self.same_levels()?;
+        self.look(ChannelId::One, first.one.report);
+        self.look(ChannelId::Two, first.two.report);
         self.counts.made(F::ALONE);
         Ok(())
+    }
+
+    // Looks at a channel after a cycle, and counts what has happened; mostly nothing has.
+    fn look(&mut self, channel: ChannelId, report: Option<Report>) {
+        let is = state(self.second.chip(), channel);
+        let was = self.states.at_mut(channel);
+        if report.is_some() || *was != is {
+            self.counts.cycle(channel, report, *was, is);
+            *was = is;
+        }
     }
 
     // A sweep: compares its answers, and its records one by one. The two of one cycle may stand in either order.

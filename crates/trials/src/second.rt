@@ -134,7 +134,7 @@ pub(crate) fn txd(chip: &Chip) -> Channels<bool> {
     }
 }
 
-fn side(channel: ChannelId) -> Side {
+pub(crate) fn side(channel: ChannelId) -> Side {
     match channel {
         ChannelId::One => Side::One,
         ChannelId::Two => Side::Two,

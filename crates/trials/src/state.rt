@@ -1,144 +1,81 @@
 // What the second model shows of a channel, to see what changes.
 
-use second_model::{ErrorFlags, Hearing, Source, Sources, Transmitter, View};
+use bitflags::bitflags;
+use second_model::{Hearing, Source, Transmitter, View};
 
-#[derive(Clone, Copy, PartialEq, Eq, Debug, Default)]
-pub(crate) struct State {
-    pub(crate) requests: Sources,
-    pub(crate) flags: Sources,
-    pub(crate) errors: ErrorFlags,
-    pub(crate) asleep: bool,
-    pub(crate) tdr_full: bool,
-    pub(crate) sends: bool,
-    pub(crate) breaks: bool,
-    pub(crate) gathers: bool,
-    pub(crate) waits: bool,
-    pub(crate) other_format: bool,
-    pub(crate) shows_parity: bool,
-    // goes to and fro with each false start bit
-    pub(crate) false_start: bool,
-}
-
-// Whether a fact holds of a channel, and the names of its beginning and its end.
+// Which facts hold of a channel. It is a set of bits, since each cycle compares it with the one before.
 #[derive(Clone, Copy, PartialEq, Eq, Debug)]
-pub(crate) struct Fact {
-    pub(crate) holds: bool,
-    pub(crate) begins: &'static str,
-    pub(crate) ends: &'static str,
-}
+pub(crate) struct State(u32);
 
-fn named(holds: bool, begins: &'static str, ends: &'static str) -> Fact {
-    Fact {
-        holds,
-        begins,
-        ends,
+bitflags! {
+    impl State: u32 {
+        const REQUEST_RDRF = 1;
+        const REQUEST_FOB = 1 << 1;
+        const REQUEST_PAR = 1 << 2;
+        const REQUEST_DSRT = 1 << 3;
+        const REQUEST_DCDT = 1 << 4;
+        const REQUEST_CTST = 1 << 5;
+        const REQUEST_TDRE = 1 << 6;
+        const RDRF = 1 << 7;
+        const FOB = 1 << 8;
+        const PAR = 1 << 9;
+        const DSRT = 1 << 10;
+        const DCDT = 1 << 11;
+        const CTST = 1 << 12;
+        const TDRE = 1 << 13;
+        const FE = 1 << 14;
+        const OVR = 1 << 15;
+        const BRK = 1 << 16;
+        const ASLEEP = 1 << 17;
+        const TDR_FULL = 1 << 18;
+        const SENDS = 1 << 19;
+        const BREAKS = 1 << 20;
+        const GATHERS = 1 << 21;
+        const WAITS = 1 << 22;
+        const OTHER_FORMAT = 1 << 23;
+        const TUR = 1 << 24;
+        const SHOWS_PARITY = 1 << 25;
+        // goes to and fro with each false start bit
+        const FALSE_START = 1 << 26;
     }
 }
+
+// The interrupt sources, each with its request and its flag.
+const SOURCES: [(Source, State, State); 7] = [
+    (Source::Rdrf, State::REQUEST_RDRF, State::RDRF),
+    (Source::Fob, State::REQUEST_FOB, State::FOB),
+    (Source::Par, State::REQUEST_PAR, State::PAR),
+    (Source::Dsrt, State::REQUEST_DSRT, State::DSRT),
+    (Source::Dcdt, State::REQUEST_DCDT, State::DCDT),
+    (Source::Ctst, State::REQUEST_CTST, State::CTST),
+    (Source::Tdre, State::REQUEST_TDRE, State::TDRE),
+];
 
 impl From<View<'_>> for State {
     fn from(view: View<'_>) -> State {
-        State {
-            requests: view.requests,
-            flags: view.flags,
-            errors: view.errors,
-            asleep: view.asleep,
-            tdr_full: view.tdr_full,
-            sends: matches!(view.transmitter, Transmitter::Sends(_)),
-            breaks: matches!(view.transmitter, Transmitter::Breaks { .. }),
-            gathers: matches!(view.hearing, Hearing::Gathers(_)),
-            waits: matches!(view.hearing, Hearing::Waits),
-            other_format: view.other_format,
-            shows_parity: view.show_parity_bit,
-            false_start: view.false_starts % 2 == 1,
+        let mut state = State::empty();
+        for (source, request, flag) in SOURCES {
+            state.set(request, view.requests.has(source));
+            state.set(flag, view.flags.has(source));
         }
-    }
-}
-
-impl State {
-    // TDR and the transmitter are empty, and CTS is low.
-    fn underrun(&self) -> bool {
-        self.flags.has(Source::Tdre) && !self.sends && !self.breaks
-    }
-
-    // The facts whose beginnings and ends are counted, in the order of the table.
-    pub(crate) fn facts(&self) -> [Fact; 26] {
-        let State {
-            requests,
-            flags,
-            errors,
-            ..
-        } = self;
-        [
-            named(
-                requests.has(Source::Rdrf),
-                "request RDRF raised",
-                "request RDRF dropped",
-            ),
-            named(
-                requests.has(Source::Fob),
-                "request F/O/B raised",
-                "request F/O/B dropped",
-            ),
-            named(
-                requests.has(Source::Par),
-                "request PAR raised",
-                "request PAR dropped",
-            ),
-            named(
-                requests.has(Source::Dsrt),
-                "request DSRT raised",
-                "request DSRT dropped",
-            ),
-            named(
-                requests.has(Source::Dcdt),
-                "request DCDT raised",
-                "request DCDT dropped",
-            ),
-            named(
-                requests.has(Source::Ctst),
-                "request CTST raised",
-                "request CTST dropped",
-            ),
-            named(
-                requests.has(Source::Tdre),
-                "request TDRE raised",
-                "request TDRE dropped",
-            ),
-            named(flags.has(Source::Rdrf), "RDRF set", "RDRF cleared"),
-            named(flags.has(Source::Fob), "F/O/B set", "F/O/B cleared"),
-            named(flags.has(Source::Par), "PAR set", "PAR cleared"),
-            named(flags.has(Source::Dsrt), "DSRT set", "DSRT cleared"),
-            named(flags.has(Source::Dcdt), "DCDT set", "DCDT cleared"),
-            named(flags.has(Source::Ctst), "CTST set", "CTST cleared"),
-            named(flags.has(Source::Tdre), "TDRE set", "TDRE cleared"),
-            named(errors.framing, "FE set", "FE cleared"),
-            named(errors.overrun, "OVR set", "OVR cleared"),
-            named(errors.broken, "BRK set", "BRK cleared"),
-            named(self.asleep, "receiver falls asleep", "receiver wakes"),
-            named(self.tdr_full, "TDR filled", "TDR emptied"),
-            named(
-                self.sends,
-                "frame sent from rest or after a break",
-                "transmitter stops sending",
-            ),
-            named(self.breaks, "break sent", "transmitter stops a break"),
-            named(
-                self.gathers,
-                "receiver begins to gather",
-                "receiver stops gathering",
-            ),
-            named(
-                self.waits,
-                "receiver begins to wait",
-                "receiver stops waiting",
-            ),
-            named(
-                self.other_format,
-                "CR or FR changed in a received frame",
-                "frame of another format ends",
-            ),
-            named(self.underrun(), "TUR set", "TUR cleared"),
-            named(self.shows_parity, "ACR bit 0 set", "ACR bit 0 cleared"),
-        ]
+        state.set(State::FE, view.errors.framing);
+        state.set(State::OVR, view.errors.overrun);
+        state.set(State::BRK, view.errors.broken);
+        state.set(State::ASLEEP, view.asleep);
+        state.set(State::TDR_FULL, view.tdr_full);
+        match view.transmitter {
+            Transmitter::Rests => state.set(State::TUR, view.flags.has(Source::Tdre)),
+            Transmitter::Sends(_) => state.insert(State::SENDS),
+            Transmitter::Breaks { .. } => state.insert(State::BREAKS),
+        }
+        match view.hearing {
+            Hearing::Hunts => {}
+            Hearing::Gathers(_) => state.insert(State::GATHERS),
+            Hearing::Waits => state.insert(State::WAITS),
+        }
+        state.set(State::OTHER_FORMAT, view.other_format);
+        state.set(State::SHOWS_PARITY, view.show_parity_bit);
+        state.set(State::FALSE_START, view.false_starts % 2 == 1);
+        state
     }
 }

@@ -29,7 +29,7 @@ pub(crate) enum Stop {
 }
 
 impl Place {
-    // What both models have, or else a difference.
+    // What both models have, or else the difference.
     pub(crate) fn same<T: PartialEq + Copy, F: Fn(T) -> Answer>(
         self,
         kind: F,
@@ -39,13 +39,19 @@ impl Place {
         requires { F.IsAlwaysCallable kind }
     {
         if first == second {
-            return Ok(kind(first));
+            Ok(kind(first))
+        } else {
+            Err(self.differs(kind(first), kind(second)))
         }
-        Err(Stop::Differs(Difference {
+    }
+
+    #[cold]
+    fn differs(self, first: Answer, second: Answer) -> Stop {
+        Stop::Differs(Difference {
             place: self,
-            first: kind(first),
-            second: kind(second),
-        }))
+            first,
+            second,
+        })
     }
 }
 
