@@ -1,4 +1,4 @@
-// The first model as it is played on.
+// The first model as it is played on. Its chip and its board have no trait in common, so that each passes on its own calls.
 
 use crate::answer::Levels;
 use crate::channels::Channels;

@@ -63,6 +63,8 @@ pub(crate) struct Trial<'a> {
 
 type TwoTables = Joint<TableLine, TableLine>;
 
+// Each kind of line is a type of its own, and only a match turns a kind into a type: one for the line there, one for the
+// line back.
 impl Trial<'_> {
     // Plays the calls from a fresh start.
     pub(crate) fn play(self, device: Device) -> Result<(), Stop> {

@@ -134,6 +134,9 @@ pub(crate) fn txd(chip: &Chip) -> Channels<bool> {
     }
 }
 
+// The rest turns words of the one model into words of the other: by functions and not by `From`, since all these types
+// are of other crates.
+
 pub(crate) fn side(channel: ChannelId) -> Side {
     match channel {
         ChannelId::One => Side::One,
