@@ -182,7 +182,7 @@ fresh_timing x d D φ (Breaking y c) i h b = absurd b
 module _ (x : Format) (d D : ℕ) where
   -- a write to the near TDR
   pub write_inv : (k : Link) (p : Past) (v : ℕ) → LinkInv x d D k p →
-      LinkInv x d D (record { phase = k.phase; cts = k.cts; sender = filled v k.sender; line = k.line; receiving = k.receiving }) (past_write (is_full k.sender.tdr) v p)
+      LinkInv x d D (record k { sender = filled v k.sender }) (past_write (is_full k.sender.tdr) v p)
   write_inv k p v i =
       let s : Sender = k.sender in
       let g = i.going in
@@ -209,7 +209,7 @@ module _ (x : Format) (d D : ℕ) where
 
   -- a read of the far RDR
   pub read_inv : (k : Link) (p : Past) → LinkInv x d D k p →
-      LinkInv x d D (record { phase = k.phase; cts = k.cts; sender = k.sender; line = k.line; receiving = emptied k.receiving })
+      LinkInv x d D (record k { receiving = emptied k.receiving })
       (past_read k.receiving.rdrf k.receiving.rdr p)
   read_inv k p i = record {
     log = i.log;
@@ -221,7 +221,7 @@ module _ (x : Format) (d D : ℕ) where
 
   -- a level of the near CTS
   pub cts_inv : (k : Link) (p : Past) (l : Bool) → LinkInv x d D k p →
-      LinkInv x d D (record { phase = k.phase; cts = l; sender = k.sender; line = k.line; receiving = k.receiving }) p
+      LinkInv x d D (record k { cts = l }) p
   cts_inv k p l i = record { log = i.log; going = i.going; arrivals = i.arrivals; clean = i.clean; reads = i.reads }
 
 -- at the start: nothing is under way, and the line is quiet
