@@ -53,7 +53,7 @@ fn sweep_allowed(k: u16, room: usize) -> Result<(), Refusal>
     Ok(())
 }
 
-// A chip that is reset and set up: both values written to both channels, both RDRs read.
+// A chip that is reset and set up: both values written to both channels, both RDRs read. They are two bytes and no struct, as each is written alone.
 fn set_up_chip(cr: u8, fr: u8) -> Result<Chip, Refusal>
     ensures { result ≡ Ok (set_up_chip cr fr) }
 {
