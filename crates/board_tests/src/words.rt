@@ -82,14 +82,21 @@ struct Heard {
     all: u16,
 }
 
+const NONE_YET: Heard = Heard {
+    one: 0,
+    two: 0,
+    all: 0,
+};
+
 // All words of a format on their way over a board.
-struct Run<'a, A: Line, B: Line> {
-    board: &'a mut Board<A, B>,
+#[derive(Drop)]
+struct Run<A: Line, B: Line> {
+    board: Board<A, B>,
     format: Format,
     heard: Heard,
 }
 
-impl<A: Line, B: Line> Run<'_, A, B> {
+impl<A: Line, B: Line> Run<A, B> {
     // Word by word channel 1 sends 0 to 255, and channel 2 sends 255 to 0.
     fn send(&mut self, rt: &impl Abort, word: u8) -> Result<(), Fail> {
         let Format { cr, fr, .. } = self.format;
@@ -147,44 +154,42 @@ impl<A: Line, B: Line> Run<'_, A, B> {
         }
         Ok(())
     }
-}
 
-// All words of a format, frame behind frame.
-fn carries<A: Line, B: Line>(
-    rt: &impl Abort,
-    board: &mut Board<A, B>,
-    format: Format,
-) -> Result<(), Fail> {
-    board.set_up(format.cr, format.fr)?;
-    let mut run = Run {
-        board,
-        format,
-        heard: Heard {
-            one: 0,
-            two: 0,
-            all: 0,
-        },
-    };
-    for frame in 0..FRAMES {
-        if frame < WORDS {
-            run.send(rt, frame as u8)?;
+    // All words, frame behind frame.
+    fn all(&mut self, rt: &impl Abort) -> Result<(), Fail> {
+        let Format { cr, fr, .. } = self.format;
+        self.board.set_up(cr, fr)?;
+        for frame in 0..FRAMES {
+            if frame < WORDS {
+                self.send(rt, frame as u8)?;
+            }
+            self.frame(rt)?;
         }
-        run.frame(rt)?;
+        // 256 words each, so that the count of each is back at 0
+        let Heard { one, two, all } = self.heard;
+        assert_eq!(rt; all, 512, "CR {cr} FR {fr}");
+        assert_eq!(rt; one, 0, "CR {cr} FR {fr}");
+        assert_eq!(rt; two, 0, "CR {cr} FR {fr}");
+        Ok(())
     }
-    // 256 words each, so that the count of each is back at 0
-    let Heard { one, two, all } = run.heard;
-    assert_eq!(rt; all, 512, "CR {} FR {}", format.cr, format.fr);
-    assert_eq!(rt; one, 0, "CR {} FR {}", format.cr, format.fr);
-    assert_eq!(rt; two, 0, "CR {} FR {}", format.cr, format.fr);
-    Ok(())
 }
 
-fn carries_all<A: Line, B: Line>(rt: &impl Abort, board: &mut Board<A, B>) -> Result<(), Fail> {
+// All words of all formats, one format after the other.
+fn carries_all<A: Line + Drop, B: Line + Drop>(
+    rt: &impl Abort,
+    first: Board<A, B>,
+) -> Result<(), Fail> {
+    let mut board = first;
     for size in SIZES {
         for parity in PARITIES {
             for control in CONTROLS {
-                let format = format_of(size, parity, control);
-                carries(rt, board, format)?;
+                let mut run = Run {
+                    board,
+                    format: format_of(size, parity, control),
+                    heard: NONE_YET,
+                };
+                run.all(rt)?;
+                board = run.board;
             }
         }
     }
@@ -197,19 +202,19 @@ fn long_line() -> Joint<Joint<TableLine, TableLine>, Wire> {
 
 #[test]
 fn words_cross_wires(rt: HostRuntime) -> Result<(), Fail> {
-    carries_all(&rt, &mut Board::new(Wire, Wire))
+    carries_all(&rt, Board::new(Wire, Wire))
 }
 
 #[test]
 fn words_cross_a_table_line_and_a_wire(rt: HostRuntime) -> Result<(), Fail> {
-    carries_all(&rt, &mut Board::new(TableLine::new(), Wire))
+    carries_all(&rt, Board::new(TableLine::new(), Wire))
 }
 
 #[test]
 fn words_cross_a_joint_and_a_table_line(rt: HostRuntime) -> Result<(), Fail> {
     carries_all(
         &rt,
-        &mut Board::new(Joint::new(Wire, TableLine::new()), TableLine::new()),
+        Board::new(Joint::new(Wire, TableLine::new()), TableLine::new()),
     )
 }
 
@@ -217,11 +222,11 @@ fn words_cross_a_joint_and_a_table_line(rt: HostRuntime) -> Result<(), Fail> {
 fn words_cross_a_joint_of_a_joint_and_a_joint(rt: HostRuntime) -> Result<(), Fail> {
     carries_all(
         &rt,
-        &mut Board::new(long_line(), Joint::new(Wire, TableLine::new())),
+        Board::new(long_line(), Joint::new(Wire, TableLine::new())),
     )
 }
 
 #[test]
 fn words_cross_a_wire_and_a_joint_of_a_joint(rt: HostRuntime) -> Result<(), Fail> {
-    carries_all(&rt, &mut Board::new(Wire, long_line()))
+    carries_all(&rt, Board::new(Wire, long_line()))
 }
