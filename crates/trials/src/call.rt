@@ -1,12 +1,16 @@
 // The calls of a history, and how they are printed.
 
+use crate::answer::level;
+use crate::channels::Channels;
 use crate::random::mixed;
+use channel::channel::Marks;
 use dacia::chip::Inputs;
+use std::fmt;
 use terms::channel_id::ChannelId;
 use terms::modem_line::ModemLine;
 
 // The level of an RxD input over the cycles of a run.
-#[derive(Clone, Copy)]
+#[derive(Clone, Copy, PartialEq, Eq, Debug)]
 pub(crate) enum Signal {
     High,
     Low,
@@ -19,8 +23,8 @@ pub(crate) enum Signal {
 }
 
 // Which cycles of a run are marked.
-#[derive(Clone, Copy)]
-pub(crate) enum Marks {
+#[derive(Clone, Copy, PartialEq, Eq, Debug)]
+pub(crate) enum MarkedCycles {
     Never,
     Always,
     Receiver,
@@ -29,26 +33,25 @@ pub(crate) enum Marks {
 }
 
 // Cycles in a row.
-#[derive(Clone, Copy)]
+#[derive(Clone, Copy, PartialEq, Eq, Debug)]
 pub(crate) struct Stretch {
     pub(crate) cycles: u32,
-    pub(crate) rxd1: Signal,
-    pub(crate) rxd2: Signal,
-    pub(crate) marks: Marks,
+    pub(crate) rxd: Channels<Signal>,
+    pub(crate) marked: MarkedCycles,
 }
 
-// A call. Held accesses, a read and a write at one select, stay open during the next so many calls.
-#[derive(Clone, Copy)]
+#[derive(Clone, Copy, PartialEq, Eq, Debug)]
 pub(crate) enum Call {
     Reset,
     Read(u8),
     Write(u8, u8),
-    Held(u8, u8, u8),
+    // a read and a write at one select that stay open during the next so many calls
+    Held { select: u8, byte: u8, span: u8 },
     Modem(ChannelId, ModemLine, bool),
     Run(Stretch),
     SetUp(u8, u8),
     // so many cycles, into so many records
-    Sweep(u16, usize),
+    Sweep { cycles: u16, room: usize },
 }
 
 impl Signal {
@@ -60,7 +63,7 @@ impl Signal {
             Signal::Other => other,
             Signal::Noise { seed, stays } => {
                 let place = cycle.checked_div(stays).unwrap_or(0);
-                mixed(seed.wrapping_add(place as u64)) & 1 == 1
+                mixed(seed.wrapping_add(u64::from(place))) & 1 == 1
             }
             Signal::Bits { lead, bits, each } => {
                 if cycle < lead {
@@ -75,92 +78,110 @@ impl Signal {
     }
 }
 
-impl Stretch {
-    // The inputs of a cycle, given the levels of TxD.
-    pub(crate) fn inputs(self, cycle: u32, txd1: bool, txd2: bool) -> Inputs {
-        let (rxc, txc) = self.marks.at(cycle);
-        Inputs {
-            rxd1: self.rxd1.level(cycle, txd2),
-            rxd2: self.rxd2.level(cycle, txd1),
-            rxc,
-            txc,
-        }
-    }
-}
-
-impl Marks {
-    // Whether a cycle is marked RxC, and whether it is marked TxC.
-    fn at(self, cycle: u32) -> (bool, bool) {
-        match self {
-            Marks::Never => (false, false),
-            Marks::Always => (true, true),
-            Marks::Receiver => (true, false),
-            Marks::Transmitter => (false, true),
-            Marks::Mixed => {
-                let number = mixed(cycle as u64);
+impl MarkedCycles {
+    // The marks of a cycle.
+    fn at(self, cycle: u32) -> Marks {
+        let (rxc, txc) = match self {
+            MarkedCycles::Never => (false, false),
+            MarkedCycles::Always => (true, true),
+            MarkedCycles::Receiver => (true, false),
+            MarkedCycles::Transmitter => (false, true),
+            MarkedCycles::Mixed => {
+                let number = mixed(u64::from(cycle));
                 (number & 1 == 1, number & 2 == 2)
             }
-        }
+        };
+        Marks { rxc, txc }
     }
 }
 
-impl Signal {
-    // What it is, and its numbers.
-    pub(crate) fn told(self) -> (&'static str, u64, u32, u32) {
-        match self {
-            Signal::High => ("high", 0, 0, 0),
-            Signal::Low => ("low", 0, 0, 0),
-            Signal::Other => ("TxD of the other channel", 0, 0, 0),
-            Signal::Noise { seed, stays } => ("noise (seed, cycles of a level)", seed, stays, 0),
-            Signal::Bits { lead, bits, each } => (
-                "bits (these, after cycles, cycles of a bit)",
-                bits as u64,
-                lead,
-                each,
-            ),
-        }
-    }
-}
-
-impl Marks {
-    pub(crate) fn name(self) -> &'static str {
-        match self {
-            Marks::Never => "never",
-            Marks::Always => "in each cycle",
-            Marks::Receiver => "RxC in each cycle",
-            Marks::Transmitter => "TxC in each cycle",
-            Marks::Mixed => "at random",
+impl Stretch {
+    // The inputs of a cycle, given the levels of TxD.
+    pub(crate) fn inputs(self, cycle: u32, txd: Channels<bool>) -> Inputs {
+        Inputs {
+            rxd1: self.rxd.one.level(cycle, txd.two),
+            rxd2: self.rxd.two.level(cycle, txd.one),
+            marks: self.marked.at(cycle),
         }
     }
 }
 
 impl Call {
-    // What it is, and its numbers.
-    pub(crate) fn told(self) -> (&'static str, u32, u8, usize) {
+    // How many calls are made while it is open. At a select that no register has nothing stays open.
+    pub(crate) fn span(self) -> usize {
         match self {
-            Call::Reset => ("reset", 0, 0, 0),
-            Call::Read(select) => ("read (select)", select as u32, 0, 0),
-            Call::Write(select, byte) => ("write (select, byte)", select as u32, byte, 0),
-            Call::Held(select, byte, span) => {
-                (
-                    "read and write (select, byte, open during calls)",
-                    select as u32,
-                    byte,
-                    span as usize,
+            Call::Held {
+                select: 0..=7,
+                span,
+                ..
+            } => usize::from(span),
+            _ => 0,
+        }
+    }
+}
+
+impl fmt::Display for Signal {
+    fn fmt<W: fmt::Write>(&self, f: &mut fmt::Formatter<W>) -> fmt::Result {
+        match self {
+            Signal::High => f.write_str("high"),
+            Signal::Low => f.write_str("low"),
+            Signal::Other => f.write_str("TxD of the other channel"),
+            Signal::Noise { seed, stays } => {
+                write!(f, "noise from seed {seed}, {stays} cycles a level")
+            }
+            Signal::Bits { lead, bits, each } => {
+                write!(f, "bits ${bits:X} after {lead} cycles, {each} cycles a bit")
+            }
+        }
+    }
+}
+
+impl fmt::Display for MarkedCycles {
+    fn fmt<W: fmt::Write>(&self, f: &mut fmt::Formatter<W>) -> fmt::Result {
+        f.write_str(match self {
+            MarkedCycles::Never => "never",
+            MarkedCycles::Always => "in each cycle",
+            MarkedCycles::Receiver => "RxC in each cycle",
+            MarkedCycles::Transmitter => "TxC in each cycle",
+            MarkedCycles::Mixed => "at random",
+        })
+    }
+}
+
+impl fmt::Display for Stretch {
+    fn fmt<W: fmt::Write>(&self, f: &mut fmt::Formatter<W>) -> fmt::Result {
+        let Stretch {
+            cycles,
+            rxd: Channels { one, two },
+            marked,
+        } = self;
+        write!(
+            f,
+            "run of {cycles} cycles\n     RxD1 {one}; RxD2 {two}; marked {marked}"
+        )
+    }
+}
+
+impl fmt::Display for Call {
+    fn fmt<W: fmt::Write>(&self, f: &mut fmt::Formatter<W>) -> fmt::Result {
+        match self {
+            Call::Reset => f.write_str("reset"),
+            Call::Read(select) => write!(f, "read at select {select}"),
+            Call::Write(select, byte) => write!(f, "write ${byte:02X} at select {select}"),
+            Call::Held { select, byte, span } => {
+                write!(
+                    f,
+                    "read, and write ${byte:02X}, at select {select}, open during {span} calls"
                 )
             }
-            Call::Modem(channel, line, level) => {
-                let high = if level { 1 } else { 0 };
-                (
-                    "modem (channel, bit in CSR, level)",
-                    channel.number() as u32,
-                    line.bit(),
-                    high,
-                )
+            Call::Modem(channel, line, high) => {
+                write!(f, "{line}{} goes {}", channel.number(), level(*high))
             }
-            Call::Run(run) => ("run (cycles)", run.cycles, 0, 0),
-            Call::SetUp(cr, fr) => ("set up (CR, FR)", cr as u32, fr, 0),
-            Call::Sweep(cycles, room) => ("sweep (cycles, -, records)", cycles as u32, 0, room),
+            Call::Run(run) => write!(f, "{run}"),
+            Call::SetUp(cr, fr) => write!(f, "set up with CR ${cr:02X} and FR ${fr:02X}"),
+            Call::Sweep { cycles, room } => {
+                write!(f, "sweep of {cycles} cycles into {room} records")
+            }
         }
     }
 }

@@ -1,28 +1,31 @@
 // Plays random histories on the first model and on the second, and compares everything that they answer.
 #![tactic(auto)]
 
+mod answer;
 mod call;
-mod codes;
+mod channels;
 mod counts;
 mod first;
 mod history;
 mod maker;
 mod play;
+mod played;
 mod random;
 mod records;
 mod rig;
 mod second;
 mod shorten;
+mod state;
 mod stop;
 
-use crate::call::Call;
-use crate::codes::Shown;
 use crate::counts::Counts;
+use crate::play::Trial;
 use crate::shorten::Found;
 use crate::stop::Stop;
 use anyhow::anyhow;
 use std::env;
 use std::process::ExitCode;
+use thiserror::Error;
 
 // The histories of a run without arguments.
 const HISTORIES: u64 = 6_000;
@@ -31,30 +34,28 @@ const HISTORIES: u64 = 6_000;
 const PROGRESS: u64 = 20_000;
 
 // What the arguments ask for.
-#[derive(Clone, Copy)]
+#[derive(Clone, Copy, PartialEq, Eq, Debug)]
 enum Request {
     Help,
-    Bad,
     Trials { histories: u64, seed: u64 },
 }
 
+#[derive(Clone, Copy, PartialEq, Eq, Debug, Error)]
+#[error("the arguments are two numbers at most; --help says more")]
+struct BadArguments;
+
 fn read_arguments(rt: &HostRuntime) -> anyhow::Result<Request> {
     let mut histories = HISTORIES;
-    let mut seed = 0u64;
-    for (place, word) in env::args(rt)?.enumerate() {
+    let mut seed = 0;
+    for (place, word) in env::args(rt)?.skip(1).enumerate() {
         if word.as_str() == "--help" {
             return Ok(Request::Help);
         }
-        if place == 0 {
-            continue;
-        }
-        let Ok(number) = word.as_str().parse::<u64>() else {
-            return Ok(Request::Bad);
-        };
+        let number = word.as_str().parse::<u64>().map_err(|_| BadArguments)?;
         match place {
-            1 if number > 0 => histories = number,
-            2 => seed = number,
-            _ => return Ok(Request::Bad),
+            0 if number > 0 => histories = number,
+            1 => seed = number,
+            _ => return Err(BadArguments.into()),
         }
     }
     Ok(Request::Trials { histories, seed })
@@ -66,48 +67,13 @@ HISTORIES: how many are played (6000). SEED: that of the first one (0).
 It fails if the models differ, or if something that it counts was never seen.";
 
 // Prints a difference and the shortest history that still has one.
-fn tell(rt: &HostRuntime, seed: u64, found: &mut Found) -> anyhow::Result<()> {
-    tell_difference(rt, seed, found)?;
-    shorten::shortest(rt.alloc(), found)?;
+fn tell(rt: &HostRuntime, found: &mut Found) -> anyhow::Result<()> {
+    eprintln!(rt; "{found}")?;
+    found.shorten(rt.alloc())?;
     for (number, call) in found.history.calls.iter().enumerate() {
-        tell_call(rt, number, *call)?;
+        eprintln!(rt; "  {number}: {call}")?;
     }
-    tell_difference(rt, seed, found)
-}
-
-fn tell_call(rt: &HostRuntime, number: usize, call: Call) -> anyhow::Result<()> {
-    let (name, a, b, c) = call.told();
-    eprintln!(rt; "  {number}: {name} {a} ${b:02X} {c}")?;
-    if let Call::Run(run) = call {
-        let marks = run.marks.name();
-        let (one, a, b, c) = run.rxd1.told();
-        let (two, d, e, f) = run.rxd2.told();
-        eprintln!(rt; "     RxD1 {one} ${a:X} {b} {c}; RxD2 {two} ${d:X} {e} {f}; marked {marks}")?;
-    }
-    Ok(())
-}
-
-fn tell_difference(rt: &HostRuntime, seed: u64, found: &Found) -> anyhow::Result<()> {
-    let calls = found.history.calls.len();
-    let (a, fed_a, b, fed_b) = found.history.device.told();
-    eprintln!(rt;
-        "Seed {seed}, {calls} calls, line A {a} (fed from {fed_a}), line B {b} (fed from {fed_b}):"
-    )?;
-    let call = found.difference.call;
-    let cycle = found.difference.cycle;
-    let what = found.difference.what;
-    let name = what.name();
-    let first = Shown {
-        what,
-        code: found.difference.first,
-    };
-    let second = Shown {
-        what,
-        code: found.difference.second,
-    };
-    eprintln!(rt;
-        "  call {call}, cycle {cycle} of it, {name}: first model {first}; second model {second}"
-    )?;
+    eprintln!(rt; "{found}")?;
     Ok(())
 }
 
@@ -115,18 +81,20 @@ fn tell_difference(rt: &HostRuntime, seed: u64, found: &Found) -> anyhow::Result
 fn one_trial(rt: &HostRuntime, seed: u64, counts: &mut Counts) -> anyhow::Result<()> {
     let heap = rt.alloc();
     let history = maker::history(heap, seed)?;
-    match play::play(heap, history.device, &history.calls, counts) {
-        Ok(()) => Ok(()),
-        Err(Stop::NoMemory) => Err(anyhow!("no memory")),
-        Err(Stop::Differs(difference)) => {
-            let mut found = Found {
-                history,
-                difference,
-            };
-            tell(rt, seed, &mut found)?;
-            Err(anyhow!("the models differ"))
-        }
+    let trial = Trial {
+        heap,
+        calls: &history.calls,
+        counts,
+    };
+    let played = trial.play(history.device);
+    if let Err(Stop::Differs(difference)) = played {
+        let mut found = Found {
+            history,
+            difference,
+        };
+        tell(rt, &mut found)?;
     }
+    Ok(played?)
 }
 
 fn trials(rt: &HostRuntime, histories: u64, seed: u64) -> anyhow::Result<()> {
@@ -137,11 +105,18 @@ fn trials(rt: &HostRuntime, histories: u64, seed: u64) -> anyhow::Result<()> {
             eprintln!(rt; "{number} histories are played")?;
         }
     }
-    if let Some(name) = counts.missing() {
-        eprintln!(rt; "never seen: {name}")?;
+    let table = counts.table(rt.alloc())?;
+    if let Some(count) = table.iter().find(|count| count.times == 0) {
+        eprintln!(rt; "never seen: {}", count.name)?;
         return Err(anyhow!("something that is counted was never seen"));
     }
-    counts.print(rt, histories)?;
+    for count in &table {
+        println!(rt; "{:<38} {:>10}", count.name, count.times)?;
+    }
+    println!(rt;
+        "{histories} histories, {} calls of a chip, {} calls of a board: no difference",
+        counts.chip_calls, counts.board_calls
+    )?;
     Ok(())
 }
 
@@ -151,7 +126,6 @@ fn run(rt: &HostRuntime) -> anyhow::Result<()> {
             println!(rt; "{HELP}")?;
             Ok(())
         }
-        Request::Bad => Err(anyhow!("the arguments are two numbers at most; --help says more")),
         Request::Trials { histories, seed } => trials(rt, histories, seed),
     }
 }

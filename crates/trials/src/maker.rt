@@ -1,14 +1,17 @@
 // Makes random histories that reach the rare rules: it keeps in mind what it wrote to CR, FR and CDR, to send fitting frames.
 
-use crate::call::{Call, Marks, Signal, Stretch};
+use crate::call::{Call, MarkedCycles, Signal, Stretch};
+use crate::channels::Channels;
 use crate::history::{Cable, Device, History, Kind};
 use crate::random::Random;
+use dacia::access::Place;
 use std::alloc::{AllocError, Global};
 use terms::channel_id::ChannelId;
 use terms::modem_line::ModemLine;
+use terms::register::Register;
 
 // Cycles of a bit for each rate code; with code 15 all cycles are taken as marked.
-const BIT: [u32; 16] = [
+const BIT_CYCLES: [u32; 16] = [
     73728, 33760, 27392, 24576, 12288, 6144, 3072, 2048, 1536, 1024, 768, 512, 384, 192, 96, 16,
 ];
 
@@ -18,109 +21,133 @@ const LONGEST: u32 = 9_300;
 const USUAL: u32 = 1_600;
 
 // What was last written to a channel.
-#[derive(Clone, Copy)]
+#[derive(Clone, Copy, PartialEq, Eq, Debug, Default)]
 struct Written {
     cr: u8,
     fr: u8,
     cdr: u8,
 }
 
+// Bits in a row, from the lowest, and their number.
+#[derive(Clone, Copy, PartialEq, Eq, Debug, Default)]
+struct Bits {
+    bits: u32,
+    length: u32,
+}
+
 #[derive(Drop)]
 struct Maker {
     random: Random,
-    one: Written,
-    two: Written,
+    written: Channels<Written>,
 }
 
-// The number of data bits that FR says.
-fn data_bits(fr: u8) -> u32 {
-    5 + ((fr >> 5) & 3) as u32
+impl Written {
+    // Keeps a write in mind.
+    fn keep(&mut self, register: Register, byte: u8) {
+        match register {
+            Register::Control if byte < 128 => self.cr = byte,
+            Register::Control => self.fr = byte,
+            Register::Auxiliary if self.cr & 0x40 == 0 => self.cdr = byte,
+            _ => {}
+        }
+    }
+
+    // Cycles of a bit.
+    fn bit_cycles(self) -> u32 {
+        BIT_CYCLES[usize::from(self.cr & 15)]
+    }
+
+    // The number of data bits.
+    fn data_bits(self) -> u32 {
+        5 + u32::from((self.fr >> 5) & 3)
+    }
 }
 
-// Cycles of a bit at a CR value.
-fn bit_cycles(cr: u8) -> u32 {
-    BIT.get((cr & 15) as usize).copied().unwrap_or(16)
+impl Bits {
+    fn push(&mut self, bit: bool) {
+        self.extend(Bits {
+            bits: u32::from(bit),
+            length: 1,
+        });
+    }
+
+    // Puts other bits behind these.
+    fn extend(&mut self, other: Bits) {
+        self.bits |= other.bits.wrapping_shl(self.length);
+        self.length = self.length.wrapping_add(other.length);
+    }
 }
 
 impl Maker {
     fn new(seed: u64) -> Maker {
-        let blank = Written {
-            cr: 0,
-            fr: 0,
-            cdr: 0,
-        };
         Maker {
             random: Random::new(seed),
-            one: blank,
-            two: blank,
+            written: Channels {
+                one: Written::default(),
+                two: Written::default(),
+            },
         }
     }
 
-    // A select of either channel at an address.
-    fn select(&mut self, address: u8) -> u8 {
+    fn channel(&mut self) -> ChannelId {
         if self.random.chance(50) {
-            address
+            ChannelId::One
         } else {
-            address | 4
+            ChannelId::Two
+        }
+    }
+
+    // The select of a register in either channel.
+    fn select(&mut self, register: Register) -> u8 {
+        let channel = self.channel();
+        Place { channel, register }.select()
+    }
+
+    // Keeps a write in mind. At a select that no register has there is none.
+    fn keep(&mut self, select: u8, byte: u8) {
+        if let Ok(Place { channel, register }) = Place::try_from(select) {
+            self.written.at_mut(channel).keep(register, byte);
         }
     }
 
     // Keeps a write in mind, and answers it.
     fn write(&mut self, select: u8, byte: u8) -> Call {
-        let mut to = if select < 4 { self.one } else { self.two };
-        if select % 4 == 1 {
-            if byte < 128 {
-                to.cr = byte;
-            } else {
-                to.fr = byte;
-            }
-        } else if select % 4 == 2 && to.cr & 0x40 == 0 {
-            to.cdr = byte;
-        }
-        if select < 4 {
-            self.one = to;
-        } else {
-            self.two = to;
-        }
+        self.keep(select, byte);
         Call::Write(select, byte)
     }
 
-    // A frame as bits from the lowest, and their number. Parity and stop bits may be wrong.
-    fn frame(&mut self, to: Written) -> (u32, u32) {
-        let data = data_bits(to.fr);
+    // A frame for a channel. Parity and stop bits may be wrong.
+    fn frame(&mut self, to: Written) -> Bits {
+        let length = to.data_bits();
         let word = if self.random.chance(25) {
             to.cdr
         } else {
             self.random.byte()
         };
-        let cut = (word as u32) & 1u32.wrapping_shl(data).wrapping_sub(1);
-        let mut bits = cut.wrapping_shl(1);
-        let mut length = data.wrapping_add(1);
+        let data = Bits {
+            bits: u32::from(word) & 1u32.wrapping_shl(length).wrapping_sub(1),
+            length,
+        };
+        let mut frame = Bits::default();
+        frame.push(false);
+        frame.extend(data);
         if to.fr & 4 != 0 {
-            let odd = cut.count_ones() & 1;
+            let odd = data.bits.count_ones() % 2 == 1;
             let right = match (to.fr >> 3) & 3 {
-                0 => 1 ^ odd,
+                0 => !odd,
                 1 => odd,
-                2 => 1,
-                _ => 0,
+                2 => true,
+                _ => false,
             };
-            let bit = if self.random.chance(30) {
-                1 ^ right
-            } else {
-                right
-            };
-            bits |= bit.wrapping_shl(length);
-            length = length.wrapping_add(1);
+            frame.push(right != self.random.chance(30));
         }
-        if self.random.chance(80) {
-            bits |= 1u32.wrapping_shl(length);
-        }
-        (bits, length.wrapping_add(1))
+        frame.push(self.random.chance(80));
+        frame
     }
 
     // What comes in at RxD of a channel.
     fn signal(&mut self, to: Written) -> Signal {
-        let each = bit_cycles(to.cr);
+        let each = to.bit_cycles();
         match self.random.below(20) {
             0..=1 => Signal::High,
             2 => Signal::Low,
@@ -130,13 +157,15 @@ impl Maker {
             },
             6..=9 => Signal::Other,
             _ => {
-                let (first, length) = self.frame(to);
-                let (second, more) = self.frame(to);
-                let after = length.wrapping_add(more);
-                let rest = 0xffff_ffffu32.wrapping_shl(after);
+                let mut frames = self.frame(to);
+                frames.extend(self.frame(to));
+                frames.extend(Bits {
+                    bits: u32::MAX,
+                    length: 0,
+                });
                 Signal::Bits {
                     lead: self.random.below(each),
-                    bits: first | second.wrapping_shl(length) | rest,
+                    bits: frames.bits,
                     each,
                 }
             }
@@ -145,10 +174,10 @@ impl Maker {
 
     // A run that is long enough for a frame of one of the channels, or two, or any part of it.
     fn run(&mut self) -> Call {
-        let one = self.one;
-        let two = self.two;
-        let to = if self.random.chance(50) { one } else { two };
-        let whole = bit_cycles(to.cr).saturating_mul(self.random.below(14).saturating_add(10));
+        let Channels { one, two } = self.written;
+        let channel = self.channel();
+        let each = self.written.at(channel).bit_cycles();
+        let whole = each.saturating_mul(self.random.below(14).saturating_add(10));
         let most = if self.random.chance(4) {
             LONGEST
         } else {
@@ -160,18 +189,20 @@ impl Maker {
         } else {
             self.random.below(long)
         };
-        let marks = match self.random.below(20) {
-            0 => Marks::Never,
-            1 => Marks::Receiver,
-            2 => Marks::Transmitter,
-            3 => Marks::Mixed,
-            _ => Marks::Always,
+        let marked = match self.random.below(20) {
+            0 => MarkedCycles::Never,
+            1 => MarkedCycles::Receiver,
+            2 => MarkedCycles::Transmitter,
+            3 => MarkedCycles::Mixed,
+            _ => MarkedCycles::Always,
         };
         Call::Run(Stretch {
             cycles,
-            rxd1: self.signal(one),
-            rxd2: self.signal(two),
-            marks,
+            rxd: Channels {
+                one: self.signal(one),
+                two: self.signal(two),
+            },
+            marked,
         })
     }
 
@@ -186,12 +217,13 @@ impl Maker {
         rate | (self.random.byte() & 0x70)
     }
 
+    // A value of FR.
+    fn format(&mut self) -> u8 {
+        self.random.byte() | 0x80
+    }
+
     fn modem(&mut self) -> Call {
-        let channel = if self.random.chance(50) {
-            ChannelId::One
-        } else {
-            ChannelId::Two
-        };
+        let channel = self.channel();
         let line = match self.random.below(4) {
             0 => ModemLine::Dcd,
             1 => ModemLine::Dsr,
@@ -204,26 +236,22 @@ impl Maker {
     fn access(&mut self) -> Call {
         match self.random.below(20) {
             0..=4 => {
-                let select = self.select(3);
+                let select = self.select(Register::Data);
                 let byte = self.random.byte();
                 self.write(select, byte)
             }
-            5..=9 => Call::Read(self.select(3)),
-            10..=12 => Call::Read(self.select(0)),
-            13..=14 => Call::Read(self.select(1)),
+            5..=9 => Call::Read(self.select(Register::Data)),
+            10..=12 => Call::Read(self.select(Register::Interrupt)),
+            13..=14 => Call::Read(self.select(Register::Control)),
             15 => Call::Read(self.random.byte()),
             16 => Call::Read(self.random.byte() & 7),
             17 => {
                 let select = self.random.byte();
                 let byte = self.random.byte();
-                if select < 8 {
-                    self.write(select, byte)
-                } else {
-                    Call::Write(select, byte)
-                }
+                self.write(select, byte)
             }
             _ => {
-                let select = self.select(0);
+                let select = self.select(Register::Interrupt);
                 let named = self.random.byte() & 0x7f;
                 let byte = if self.random.chance(80) {
                     named | 0x80
@@ -237,9 +265,8 @@ impl Maker {
 
     // A write to CR, FR, CDR or ACR of either channel.
     fn setting(&mut self) -> Call {
-        let address = if self.random.chance(35) { 2 } else { 1 };
-        let select = self.select(address);
-        if address == 2 {
+        if self.random.chance(35) {
+            let select = self.select(Register::Auxiliary);
             let byte = if self.random.chance(60) {
                 self.random.byte() & 3
             } else {
@@ -247,10 +274,11 @@ impl Maker {
             };
             return self.write(select, byte);
         }
+        let select = self.select(Register::Control);
         let byte = if self.random.chance(50) {
             self.control()
         } else {
-            self.random.byte() | 0x80
+            self.format()
         };
         self.write(select, byte)
     }
@@ -264,32 +292,26 @@ impl Maker {
             self.random.byte()
         };
         let byte = self.random.byte();
-        if select < 8 {
-            let _ = self.write(select, byte);
-        }
-        Call::Held(select, byte, span)
+        self.keep(select, byte);
+        Call::Held { select, byte, span }
     }
 
-    // A call of a chip. The first ones set quick rates, any formats and sources, and clear RDRF.
-    fn chip_call(&mut self, number: u32) -> Call {
-        let select = if number < 4 { 0 } else { 4 };
-        if number < 8 {
-            return match number % 4 {
-                0 => {
-                    let control = self.control();
-                    self.write(select | 1, control)
-                }
-                1 => {
-                    let format = self.random.byte() | 0x80;
-                    self.write(select | 1, format)
-                }
-                2 => {
-                    let sources = self.random.byte() | 0x80;
-                    self.write(select, sources)
-                }
-                _ => Call::Read(select | 3),
-            };
-        }
+    // The first calls of a channel: they set a quick rate, any format and sources, and clear RDRF.
+    fn first_calls(&mut self, channel: ChannelId) -> [Call; 4] {
+        let select = |register| Place { channel, register }.select();
+        let control = self.control();
+        let format = self.format();
+        let sources = self.random.byte() | 0x80;
+        [
+            self.write(select(Register::Control), control),
+            self.write(select(Register::Control), format),
+            self.write(select(Register::Interrupt), sources),
+            Call::Read(select(Register::Data)),
+        ]
+    }
+
+    // A call of a chip.
+    fn chip_call(&mut self) -> Call {
         match self.random.below(100) {
             0..=39 => self.run(),
             40..=69 => self.access(),
@@ -303,7 +325,7 @@ impl Maker {
     fn set_up(&mut self) -> Call {
         let rate = if self.random.chance(80) { 14 } else { 13 };
         let mut cr = rate | (self.random.byte() & 0x70);
-        let mut fr = self.random.byte() | 0x80;
+        let mut fr = self.format();
         if self.random.chance(10) {
             cr = self.random.byte() | 0x0f;
         }
@@ -324,34 +346,34 @@ impl Maker {
             3 => 2049,
             4 => 65535,
             5 => 1000,
-            6 => 1 + self.random.byte() as u16,
+            6 => 1 + u16::from(self.random.byte()),
             _ => 2048,
         };
-        let twice = (cycles as usize).saturating_mul(2).min(4100);
+        let twice = usize::from(cycles).saturating_mul(2).min(4100);
         let room = match self.random.below(10) {
             0 => 0,
             1..=2 => twice.saturating_sub(1),
             3 => twice.saturating_add(1),
             _ => twice,
         };
-        Call::Sweep(cycles, room)
+        Call::Sweep { cycles, room }
     }
 
-    // A call of a board. At first both channels get a word, so that they may report in one cycle.
-    fn board_call(&mut self, number: u32) -> Call {
-        if number < 3 {
-            return match number {
-                0 => self.set_up(),
-                1 => self.write(3, 0x41),
-                _ => self.write(7, 0x42),
-            };
-        }
+    // The first calls of a board: both channels get a word, so that they may report in one cycle.
+    fn first_board_calls(&mut self) -> [Call; 3] {
+        [self.set_up(), self.write(3, 0x41), self.write(7, 0x42)]
+    }
+
+    // A call of a board.
+    fn board_call(&mut self) -> Call {
         match self.random.below(100) {
             0..=24 => Call::Run(Stretch {
                 cycles: self.random.below(1500),
-                rxd1: Signal::High,
-                rxd2: Signal::High,
-                marks: Marks::Never,
+                rxd: Channels {
+                    one: Signal::High,
+                    two: Signal::High,
+                },
+                marked: MarkedCycles::Never,
             }),
             25..=39 => self.sweep(),
             40..=47 => self.set_up(),
@@ -371,9 +393,9 @@ impl Maker {
             _ => Kind::JointOfJoints,
         };
         let fed = if self.random.chance(20) {
-            self.random.number()
+            Some(self.random.number())
         } else {
-            0
+            None
         };
         Cable { kind, fed }
     }
@@ -384,24 +406,30 @@ pub(crate) fn history(heap: Global, seed: u64) -> Result<History, AllocError> {
     let mut maker = Maker::new(seed);
     let mut calls = Vec::new(heap);
     let count = maker.random.below(100).saturating_add(20);
-    let alone = seed % 8 != 7;
-    // one history in five does without the first calls
-    let begins = if alone && maker.random.chance(20) {
-        8
-    } else {
-        0
-    };
-    for number in begins..count {
-        calls.push(if alone {
-            maker.chip_call(number)
-        } else {
-            maker.board_call(number)
-        })?;
-    }
-    let device = if alone {
+    let device = if seed % 8 != 7 {
+        // one history in five does without the first calls
+        if !maker.random.chance(20) {
+            for channel in [ChannelId::One, ChannelId::Two] {
+                calls.extend_from_slice(&maker.first_calls(channel))?;
+            }
+        }
+        for _ in 8..count {
+            calls.push(maker.chip_call())?;
+        }
         Device::Chip
     } else {
-        Device::Board(maker.cable(), maker.cable())
+        calls.extend_from_slice(&maker.first_board_calls())?;
+        for _ in 3..count {
+            calls.push(maker.board_call())?;
+        }
+        Device::Board {
+            there: maker.cable(),
+            back: maker.cable(),
+        }
     };
-    Ok(History { device, calls })
+    Ok(History {
+        seed,
+        device,
+        calls,
+    })
 }

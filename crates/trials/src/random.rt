@@ -24,7 +24,7 @@ impl Random {
 
     // A number below the limit, or 0 where that is 0.
     pub(crate) fn below(&mut self, limit: u32) -> u32 {
-        let scaled = (self.number() >> 32).wrapping_mul(limit as u64);
+        let scaled = (self.number() >> 32).wrapping_mul(u64::from(limit));
         ((scaled >> 32) & 0xffff_ffff) as u32
     }
 

@@ -1,42 +1,40 @@
-// Records of a sweep as numbers, to compare them one by one.
+// The records of a sweep.
 
 use board::record::Record;
-use second_model::Event;
+use std::alloc::{AllocError, Global};
 use terms::channel_id::ChannelId;
 use terms::report::ReportKind;
 
 // The cycle of a record that is not written.
 const UNWRITTEN: u16 = 60_000;
 
-// The word, its kind from bit 8, the channel from bit 12, the cycle from bit 16.
-fn packed(cycle: u32, channel: u8, kind: u8, word: u8) -> u32 {
-    (cycle & 0xffff) << 16 | (channel as u32) << 12 | (kind as u32) << 8 | word as u32
+// So many records before a sweep. Each has another word than the next.
+pub(crate) fn blank(heap: Global, room: usize) -> Result<Vec<Record>, AllocError> {
+    (0..room)
+        .map(|place| Record {
+            cycle: UNWRITTEN,
+            channel: ChannelId::Two,
+            kind: ReportKind::Break,
+            word: (place & 0xff) as u8,
+        })
+        .collect(heap)
 }
 
-// A record before a sweep.
-pub(crate) fn blank(place: usize) -> Record {
-    Record {
-        cycle: UNWRITTEN,
-        channel: ChannelId::Two,
-        kind: ReportKind::Nothing,
-        word: (place & 0xff) as u8,
+// Puts the two records of a cycle in the order of their channels.
+pub(crate) fn put_in_order(records: &mut [Record]) {
+    for of_cycle in records.chunk_by_mut(|one, other| one.cycle == other.cycle) {
+        if let [one, other] = of_cycle
+            && one.channel == ChannelId::Two
+            && other.channel == ChannelId::One
+        {
+            std::mem::swap(one, other);
+        }
     }
 }
 
-pub(crate) fn of_record(record: Record) -> u32 {
-    packed(
-        record.cycle as u32,
-        record.channel.number(),
-        record.kind.number(),
-        record.word,
-    )
-}
-
-pub(crate) fn of_event(event: Event) -> u32 {
-    packed(
-        event.cycle,
-        event.side as u8,
-        event.report.ending as u8,
-        event.report.word,
-    )
+// Whether two of them are of one cycle.
+pub(crate) fn has_neighbours(records: &[Record]) -> bool {
+    records
+        .array_windows()
+        .any(|[one, other]: &[Record; 2]| one.cycle == other.cycle)
 }

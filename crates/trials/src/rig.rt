@@ -1,219 +1,200 @@
 // Both models side by side: each call is made on both, and everything that they answer and show is compared.
 
+use crate::answer::Answer;
 use crate::call::{Call, Stretch};
-use crate::codes::What;
-use crate::counts::Counts;
-use crate::first::First;
+use crate::channels::Channels;
+use crate::counts::{Counts, Event};
+use crate::played::{First, Second};
 use crate::records;
-use crate::second::Second;
-use crate::stop::{Difference, Stop};
-use board::record::Record;
+use crate::second::{side, txd};
+use crate::state::State;
+use crate::stop::{Place, Stop};
 use dacia::access::{ReadAccess, WriteAccess};
 use dacia::chip::Inputs;
-use line::line::Line;
-use second_model::Side;
+use second_model::Chip;
+use std::alloc::Global;
+use std::mem;
+use terms::channel_id::ChannelId;
+use terms::report::Report;
 
 #[derive(Drop)]
-pub(crate) struct Rig<A, B> {
-    first: First<A, B>,
-    second: Second,
-    records: Vec<Record>,
+pub(crate) struct Rig<'a, F, S> {
+    heap: Global,
+    first: F,
+    second: S,
+    counts: &'a mut Counts,
     place: Place,
     // what the second model showed last of the channels
-    states: (u32, u32),
+    states: Channels<State>,
+    // whether the last sweep had two records of one cycle; this is counted at each call up to the next sweep
+    neighbours: bool,
 }
 
-// The call and its cycle under way.
-#[derive(Clone, Copy)]
-struct Place {
-    call: usize,
-    cycle: u32,
+fn state(chip: &Chip, channel: ChannelId) -> State {
+    chip.view(side(channel)).into()
 }
 
-impl Place {
-    // A difference, unless the two are the same.
-    fn same(self, what: What, first: u32, second: u32) -> Result<(), Stop> {
-        if first == second {
-            return Ok(());
-        }
-        Err(Stop::Differs(Difference {
-            call: self.call,
-            cycle: self.cycle,
-            what,
-            first,
-            second,
-        }))
+fn states(chip: &Chip) -> Channels<State> {
+    Channels {
+        one: state(chip, ChannelId::One),
+        two: state(chip, ChannelId::Two),
     }
 }
 
-impl<A: Line, B: Line> Rig<A, B> {
-    pub(crate) fn new(first: First<A, B>, second: Second, records: Vec<Record>) -> Rig<A, B> {
-        let states = second.states();
+impl<'a, F: First, S: Second> Rig<'a, F, S> {
+    pub(crate) fn new(heap: Global, first: F, second: S, counts: &'a mut Counts) -> Rig<'a, F, S> {
+        let states = states(second.chip());
         Rig {
+            heap,
             first,
             second,
-            records,
+            counts,
             place: Place { call: 0, cycle: 0 },
             states,
+            neighbours: false,
         }
     }
 
     // Plays the calls in order.
-    pub(crate) fn play_all(&mut self, calls: &Vec<Call>, counts: &mut Counts) -> Result<(), Stop> {
-        let mut skip = 0u8;
-        for (number, call) in calls.iter().enumerate() {
-            if skip > 0 {
-                skip -= 1;
-                continue;
+    pub(crate) fn play_all(&mut self, calls: &[Call]) -> Result<(), Stop> {
+        let mut rest = calls;
+        while let Some((call, later)) = rest.split_first() {
+            self.place.call = calls.len().saturating_sub(rest.len());
+            let (during, after) = later.split_at(call.span().min(later.len()));
+            match *call {
+                Call::Held { select, byte, .. } => self.hold(*call, select, byte, during)?,
+                call => self.play(call)?,
             }
-            self.place.call = number;
-            if let Call::Held(select, byte, span) = *call {
-                skip = self.hold(select, byte, span, calls, counts)?;
-            } else {
-                self.play(*call, counts)?;
-            }
+            rest = after;
         }
         Ok(())
     }
 
-    // Plays one call. An access is ended at once.
-    fn play(&mut self, call: Call, counts: &mut Counts) -> Result<(), Stop> {
+    // Plays one call. An access is ended at once, so that of a held one only the read is made.
+    fn play(&mut self, call: Call) -> Result<(), Stop> {
         self.place.cycle = 0;
-        let (first, second) = match call {
-            Call::Read(select) | Call::Held(select, _, _) => (
-                self.first.read(select),
-                self.second.read(select),
-            ),
-            Call::Write(select, byte) => (
-                self.first.write(select, byte),
-                self.second.write(select, byte),
-            ),
-            Call::SetUp(cr, fr) => (self.first.set_up(cr, fr), self.second.set_up(cr, fr)),
-            Call::Sweep(cycles, room) => self.sweep(cycles, room)?,
-            Call::Run(run) => return self.run(run, counts),
+        let place = self.place;
+        let first = &mut self.first;
+        let second = &mut self.second;
+        let answer = match call {
+            Call::Read(select) | Call::Held { select, .. } => {
+                place.same(Answer::Read, first.read(select), second.read(select))?
+            }
+            Call::Write(select, byte) => place.same(
+                Answer::Write,
+                first.write(select, byte),
+                second.write(select, byte),
+            )?,
+            Call::SetUp(cr, fr) => {
+                place.same(Answer::SetUp, first.set_up(cr, fr), second.set_up(cr, fr))?
+            }
+            Call::Sweep { cycles, room } => self.sweep(cycles, room)?,
+            Call::Run(run) => return self.run(run),
             Call::Reset => {
-                self.first.reset();
-                self.second.board.chip.reset();
-                (0, 0)
+                first.reset();
+                second.reset();
+                Answer::Nothing
             }
             Call::Modem(channel, line, level) => {
-                self.first.set_modem(channel, line, level);
-                self.second.modem(channel, line, level);
-                (0, 0)
+                first.set_modem(channel, line, level);
+                second.set_modem(channel, line, level);
+                Answer::Nothing
             }
         };
-        self.end(call, first, second, counts)
+        self.end(call, answer)
     }
 
-    // The end of a call: compares the answers and the levels, and counts.
-    fn end(
-        &mut self,
-        call: Call,
-        first: u32,
-        second: u32,
-        counts: &mut Counts,
-    ) -> Result<(), Stop> {
-        self.place.same(What::Answer, first, second)?;
-        self.place
-            .same(What::Levels, self.first.levels(), self.second.levels())?;
-        let was = self.states;
-        self.states = self.second.states();
-        counts.call(call, first, was, self.states);
-        counts.made(self.second.alone, self.second.neighbours);
+    // The end of a call: compares the levels, and counts.
+    fn end(&mut self, call: Call, answer: Answer) -> Result<(), Stop> {
+        self.same_levels()?;
+        let is = states(self.second.chip());
+        let was = mem::replace(&mut self.states, is);
+        self.counts.call(call, answer, was, is);
+        self.counts.see(Event::TwoRecordsOfCycle, self.neighbours);
+        self.counts.made(F::ALONE);
         Ok(())
     }
 
-    // A read and a write at a select that are opened, and ended after other calls. It answers how many these were.
-    fn hold(
-        &mut self,
-        select: u8,
-        byte: u8,
-        span: u8,
-        calls: &Vec<Call>,
-        counts: &mut Counts,
-    ) -> Result<u8, Stop> {
+    fn same_levels(&self) -> Result<(), Stop> {
+        self.place
+            .same(Answer::Levels, self.first.levels(), self.second.levels())?;
+        Ok(())
+    }
+
+    // A read and a write at a select that are opened, and ended after other calls.
+    fn hold(&mut self, call: Call, select: u8, byte: u8, during: &[Call]) -> Result<(), Stop> {
         let Ok(read) = ReadAccess::open(select) else {
-            self.play(Call::Read(select), counts)?;
-            return Ok(0);
+            return self.play(Call::Read(select));
         };
         let Ok(write) = WriteAccess::open(select) else {
             let _ = self.first.end_read(read);
-            self.play(Call::Write(select, byte), counts)?;
-            return Ok(0);
+            return self.play(Call::Write(select, byte));
         };
-        let played = self.between(span, calls, counts);
-        let first_read = self.first.end_read(read);
-        let first = self.first.end_write(write, byte);
+        let played = self.between(during);
+        let read = self.first.end_read(read);
+        let written = self.first.end_write(write, byte);
         played?;
         self.place
-            .same(What::Answer, first_read, self.second.read(select))?;
-        let second = self.second.write(select, byte);
-        self.end(Call::Held(select, byte, span), first, second, counts)?;
-        Ok(span)
+            .same(Answer::Read, read, self.second.read(select))?;
+        let answer = self.place.same(Answer::Write, Ok(written), self.second.write(select, byte))?;
+        self.end(call, answer)
     }
 
     // Plays the calls during which an access is open.
-    fn between(&mut self, span: u8, calls: &Vec<Call>, counts: &mut Counts) -> Result<(), Stop> {
-        let from = self.place.call.saturating_add(1);
-        for call in calls.iter().skip(from).take(span as usize) {
+    fn between(&mut self, during: &[Call]) -> Result<(), Stop> {
+        for call in during {
             self.place.call = self.place.call.saturating_add(1);
-            self.play(*call, counts)?;
+            self.play(*call)?;
         }
         Ok(())
     }
 
-    fn run(&mut self, run: Stretch, counts: &mut Counts) -> Result<(), Stop> {
+    fn run(&mut self, run: Stretch) -> Result<(), Stop> {
         for cycle in 0..run.cycles {
             self.place.cycle = cycle.saturating_add(1);
-            let chip = &self.second.board.chip;
-            let inputs = run.inputs(cycle, chip.txd(Side::One), chip.txd(Side::Two));
-            self.cycle(inputs, counts)?;
+            let txd = txd(self.second.chip());
+            self.cycle(run.inputs(cycle, txd))?;
         }
         Ok(())
     }
 
-    fn cycle(&mut self, inputs: Inputs, counts: &mut Counts) -> Result<(), Stop> {
+    fn cycle(&mut self, inputs: Inputs) -> Result<(), Stop> {
         let first = self.first.cycle(inputs);
         let second = self.second.cycle(inputs);
-        self.place.same(What::AnswerOne, first.0, second.0)?;
-        self.place.same(What::AnswerTwo, first.1, second.1)?;
-        self.place
-            .same(What::Levels, self.first.levels(), self.second.levels())?;
-        let was = self.states;
-        self.states = self.second.states();
-        counts.cycle(first, was, self.states);
-        counts.made(self.second.alone, false);
+        let one = |answer| Answer::Cycle(ChannelId::One, answer);
+        let two = |answer| Answer::Cycle(ChannelId::Two, answer);
+        self.place.same(one, first.one, second.one)?;
+        self.place.same(two, first.two, second.two)?;
+        self.same_levels()?;
+        self.look(ChannelId::One, first.one.report);
+        self.look(ChannelId::Two, first.two.report);
+        self.counts.made(F::ALONE);
         Ok(())
     }
 
-    // A sweep, and its answers.
-    fn sweep(&mut self, cycles: u16, room: usize) -> Result<(u32, u32), Stop> {
-        self.records.clear();
-        for place in 0..room {
-            self.records.push(records::blank(place))?;
+    // Looks at a channel after a cycle, and counts what has happened; mostly nothing has.
+    fn look(&mut self, channel: ChannelId, report: Option<Report>) {
+        let is = state(self.second.chip(), channel);
+        let was = self.states.at_mut(channel);
+        if report.is_some() || *was != is {
+            self.counts.cycle(channel, report, *was, is);
+            *was = is;
         }
-        let first = self.first.sweep(cycles, &mut self.records);
-        let second = self.second.sweep(cycles, room)?;
-        self.place.same(What::Answer, first, second)?;
-        self.same_records()?;
-        Ok((first, second))
     }
-    // Compares the records of the last sweep one by one. The two of one cycle may stand in either order.
-    fn same_records(&self) -> Result<(), Stop> {
-        let mut exchanged = false;
-        for (place, record) in self.records.iter().enumerate() {
-            let first = records::of_record(*record);
-            let second = self.second.record(place);
-            let partner = self.second.partner(place);
-            if !self.second.ends_pair(place) {
-                exchanged = partner == Some(first);
-            }
-            let second = match partner {
-                Some(other) if exchanged => other,
-                _ => second,
-            };
-            self.place.same(What::Records, first, second)?;
+
+    // A sweep: compares its answers, and its records one by one. The two of one cycle may stand in either order.
+    fn sweep(&mut self, cycles: u16, room: usize) -> Result<Answer, Stop> {
+        let mut first = records::blank(self.heap, room)?;
+        let mut second = first.clone()?;
+        let written = self.first.sweep(self.heap, cycles, &mut first)?;
+        let expected = self.second.sweep(self.heap, cycles, &mut second)?;
+        let answer = self.place.same(Answer::Sweep, written, expected)?;
+        records::put_in_order(&mut first);
+        for (record, expected) in first.iter().zip(&second) {
+            self.place.same(Answer::Record, *record, *expected)?;
         }
-        Ok(())
+        let written = second.get(..expected.unwrap_or(0)).unwrap_or(&[]);
+        self.neighbours = records::has_neighbours(written);
+        Ok(answer)
     }
 }

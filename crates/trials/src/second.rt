@@ -1,145 +1,222 @@
-// The second model as it is played on, in the same way as the first.
+// The second model as it is played on: its answers in the words of the first.
 
-use crate::codes::{REFUSED, pair};
-use crate::{codes, records};
-use dacia::chip::Inputs;
-use second_model::{Access, Board, Doing, Event, Hearing, Input, Pins, Side, View};
-use std::alloc::AllocError;
+use crate::answer::Levels;
+use crate::channels::Channels;
+use crate::played::{Played, Second};
+use board::record::Record;
+use channel::channel::ChannelAnswer;
+use dacia::chip::{ChipAnswer, Inputs};
+use second_model::{Access, Answer, Board, Both, Chip, Event, Input, Pins, Side, SweepError};
+use std::alloc::{AllocError, Global};
 use terms::channel_id::ChannelId;
 use terms::modem_line::ModemLine;
+use terms::note::{ReadNote, Reading, WriteNote};
+use terms::refusal::Refusal;
+use terms::report::{Report, ReportKind};
 
-// A chip alone is that of a board which takes no cycle of its own.
-#[derive(Drop)]
-pub(crate) struct Second {
-    pub(crate) board: Board,
-    pub(crate) alone: bool,
-    pub(crate) log: Vec<Event>,
-    // whether the last sweep had two reports in one cycle
-    pub(crate) neighbours: bool,
+impl Played for Chip {
+    const ALONE: bool = true;
+
+    fn read(&mut self, select: u8) -> Result<Reading, Refusal> {
+        let access = Access::open(select).map_err(refusal)?;
+        Chip::read(self, access).map(reading).map_err(refusal)
+    }
+
+    fn write(&mut self, select: u8, byte: u8) -> Result<Option<WriteNote>, Refusal> {
+        let access = Access::open(select).map_err(refusal)?;
+        Ok(Chip::write(self, access, byte).map(write_note))
+    }
+
+    fn set_modem(&mut self, channel: ChannelId, line: ModemLine, level: bool) {
+        self.modem(side(channel), input(line), level);
+    }
+
+    fn cycle(&mut self, inputs: Inputs) -> ChipAnswer {
+        chip_answer(Chip::cycle(
+            self,
+            Pins {
+                rxd: Both {
+                    one: inputs.rxd1,
+                    two: inputs.rxd2,
+                },
+                rxc: inputs.marks.rxc,
+                txc: inputs.marks.txc,
+            },
+        ))
+    }
+
+    fn levels(&self) -> Levels {
+        Levels {
+            irq: irq(self),
+            txd: Some(txd(self)),
+        }
+    }
+
+    fn reset(&mut self) {
+        Chip::reset(self)
+    }
 }
 
-// The state of a channel, in the bits that the counts name.
-fn state(view: View) -> u32 {
-    let mut bits = view.requests.byte() as u32 | (view.flags.byte() as u32) << 7;
-    bits |= flag(view.framing, 14)
-        | flag(view.overrun, 15)
-        | flag(view.broken, 16)
-        | flag(view.asleep, 17);
-    bits |= flag(view.tdr_full, 18) | flag(matches!(view.doing, Doing::Sends), 19);
-    bits |= flag(matches!(view.doing, Doing::Breaks), 20)
-        | flag(matches!(view.hearing, Hearing::Gathers), 21);
-    bits |= flag(matches!(view.hearing, Hearing::Waits), 22) | flag(view.other_format, 23);
-    bits |= flag(view.flags.tdre && matches!(view.doing, Doing::Rests), 24);
-    bits | flag(view.show_parity_bit, 25) | flag(view.false_starts & 1 == 1, 26)
+impl Second for Chip {
+    fn chip(&self) -> &Chip {
+        self
+    }
 }
 
-// A bit that stands where the flag is set.
-fn flag(set: bool, bit: u32) -> u32 {
-    if set { 1u32.wrapping_shl(bit) } else { 0 }
+impl Played for Board {
+    const ALONE: bool = false;
+
+    fn read(&mut self, select: u8) -> Result<Reading, Refusal> {
+        Played::read(&mut self.chip, select)
+    }
+
+    fn write(&mut self, select: u8, byte: u8) -> Result<Option<WriteNote>, Refusal> {
+        Played::write(&mut self.chip, select, byte)
+    }
+
+    fn set_modem(&mut self, channel: ChannelId, line: ModemLine, level: bool) {
+        self.chip.set_modem(channel, line, level);
+    }
+
+    fn cycle(&mut self, _inputs: Inputs) -> ChipAnswer {
+        chip_answer(Board::cycle(self))
+    }
+
+    fn levels(&self) -> Levels {
+        Levels {
+            irq: irq(&self.chip),
+            txd: None,
+        }
+    }
+
+    fn set_up(&mut self, cr: u8, fr: u8) -> Result<(), Refusal> {
+        Board::set_up(self, cr, fr).map_err(refusal)
+    }
+
+    fn sweep(
+        &mut self,
+        heap: Global,
+        cycles: u16,
+        records: &mut [Record],
+    ) -> Result<Result<usize, Refusal>, AllocError> {
+        let mut log = Vec::new(heap);
+        match Board::sweep(self, u32::from(cycles), records.len(), &mut log) {
+            Ok(()) => {}
+            Err(SweepError::Refused(why)) => return Ok(Err(refusal(why))),
+            Err(SweepError::OutOfMemory(error)) => return Err(error),
+        }
+        for (place, event) in records.iter_mut().zip(&log) {
+            *place = record(*event);
+        }
+        Ok(Ok(log.len()))
+    }
 }
 
-impl Second {
-    pub(crate) fn cycle(&mut self, inputs: Inputs) -> (u32, u32) {
-        let (one, two) = if self.alone {
-            self.board.chip.cycle(Pins {
-                rxd1: inputs.rxd1,
-                rxd2: inputs.rxd2,
-                rxc: inputs.rxc,
-                txc: inputs.txc,
-            })
-        } else {
-            self.board.cycle()
-        };
-        (codes::second_answer(one), codes::second_answer(two))
+impl Second for Board {
+    fn chip(&self) -> &Chip {
+        &self.chip
     }
+}
 
-    pub(crate) fn read(&mut self, select: u8) -> u32 {
-        match Access::open(select) {
-            Ok(access) => codes::second_read(self.board.chip.read(access)),
-            Err(number) => REFUSED | number as u32,
-        }
+// The levels of IRQ.
+fn irq(chip: &Chip) -> Channels<bool> {
+    Channels {
+        one: chip.irq(Side::One),
+        two: chip.irq(Side::Two),
     }
+}
 
-    pub(crate) fn write(&mut self, select: u8, byte: u8) -> u32 {
-        match Access::open(select) {
-            Ok(access) => codes::note_code(self.board.chip.write(access, byte)),
-            Err(number) => REFUSED | number as u32,
-        }
+// The levels of TxD.
+pub(crate) fn txd(chip: &Chip) -> Channels<bool> {
+    Channels {
+        one: chip.txd(Side::One),
+        two: chip.txd(Side::Two),
     }
+}
 
-    pub(crate) fn modem(&mut self, channel: ChannelId, line: ModemLine, level: bool) {
-        let side = match channel {
-            ChannelId::One => Side::One,
-            ChannelId::Two => Side::Two,
-        };
-        let input = match line {
-            ModemLine::Cts => Input::Cts,
-            ModemLine::Dcd => Input::Dcd,
-            ModemLine::Dsr => Input::Dsr,
-        };
-        self.board.chip.modem(side, input, level);
+pub(crate) fn side(channel: ChannelId) -> Side {
+    match channel {
+        ChannelId::One => Side::One,
+        ChannelId::Two => Side::Two,
     }
+}
 
-    pub(crate) fn levels(&self) -> u32 {
-        let chip = &self.board.chip;
-        let irq = pair(chip.irq(Side::One), chip.irq(Side::Two));
-        if self.alone {
-            return irq | pair(chip.txd(Side::One), chip.txd(Side::Two)) << 2;
-        }
-        irq
+fn input(line: ModemLine) -> Input {
+    match line {
+        ModemLine::Cts => Input::Cts,
+        ModemLine::Dcd => Input::Dcd,
+        ModemLine::Dsr => Input::Dsr,
     }
+}
 
-    pub(crate) fn set_up(&mut self, cr: u8, fr: u8) -> u32 {
-        match self.board.set_up(cr, fr) {
-            Ok(()) => 0,
-            Err(number) => REFUSED | number as u32,
-        }
+fn refusal(refusal: second_model::Refusal) -> Refusal {
+    match refusal {
+        second_model::Refusal::NoSuchSelect => Refusal::NoSuchSelect,
+        second_model::Refusal::NothingToRead => Refusal::NothingToRead,
+        second_model::Refusal::BadControl => Refusal::BadControl,
+        second_model::Refusal::BadFormat => Refusal::BadFormat,
+        second_model::Refusal::LineNotQuiet => Refusal::LineNotQuiet,
+        second_model::Refusal::BadSweepLength => Refusal::BadSweepLength,
+        second_model::Refusal::TooFewRecords => Refusal::TooFewRecords,
     }
+}
 
-    pub(crate) fn sweep(&mut self, cycles: u16, room: usize) -> Result<u32, AllocError> {
-        self.log.clear();
-        let done = self.board.sweep(cycles as u32, room, &mut self.log)?;
-        self.neighbours = false;
-        for place in 0..self.log.len() {
-            self.neighbours = self.neighbours || self.ends_pair(place);
-        }
-        Ok(match done {
-            Ok(()) => (self.log.len() & 0xffff) as u32,
-            Err(number) => REFUSED | number as u32,
-        })
+fn reading(read: second_model::ReadOut) -> Reading {
+    Reading {
+        byte: read.byte,
+        note: read.note.map(read_note),
     }
+}
 
-    // Whether the reports at a place and at the one before are of one cycle.
-    pub(crate) fn ends_pair(&self, place: usize) -> bool {
-        match (self.log.get(place.wrapping_sub(1)), self.log.get(place)) {
-            (Some(before), Some(event)) => before.cycle == event.cycle,
-            _ => false,
-        }
+fn read_note(note: second_model::ReadNote) -> ReadNote {
+    match note {
+        second_model::ReadNote::Fresh => ReadNote::Fresh,
+        second_model::ReadNote::Old => ReadNote::Old,
     }
+}
 
-    // The record that the last sweep should leave at a place.
-    pub(crate) fn record(&self, place: usize) -> u32 {
-        match self.log.get(place) {
-            Some(event) => records::of_event(*event),
-            None => records::of_record(records::blank(place)),
-        }
+fn write_note(note: second_model::WriteNote) -> WriteNote {
+    match note {
+        second_model::WriteNote::Stored => WriteNote::Stored,
+        second_model::WriteNote::Replaced => WriteNote::Replaced,
     }
+}
 
-    // The record of the other report of the same cycle.
-    pub(crate) fn partner(&self, place: usize) -> Option<u32> {
-        let next = place.saturating_add(1);
-        if self.ends_pair(place) {
-            Some(self.record(place.wrapping_sub(1)))
-        } else if self.ends_pair(next) {
-            Some(self.record(next))
-        } else {
-            None
-        }
+// A break has no word; the first model says 0.
+fn report(report: second_model::Report) -> Report {
+    let (kind, word) = match report {
+        second_model::Report::Break => (ReportKind::Break, 0),
+        second_model::Report::Passed(word) => (ReportKind::Passed, word),
+        second_model::Report::Lost(word) => (ReportKind::Lost, word),
+        second_model::Report::Kept(word) => (ReportKind::Kept, word),
+    };
+    Report { kind, word }
+}
+
+fn chip_answer(answers: Both<Answer>) -> ChipAnswer {
+    ChipAnswer {
+        one: channel_answer(answers.one),
+        two: channel_answer(answers.two),
     }
+}
 
-    // The states of the two channels.
-    pub(crate) fn states(&self) -> (u32, u32) {
-        let chip = &self.board.chip;
-        (state(chip.view(Side::One)), state(chip.view(Side::Two)))
+fn channel_answer(answer: Answer) -> ChannelAnswer {
+    ChannelAnswer {
+        txd: answer.txd,
+        irq: answer.irq,
+        report: answer.report.map(report),
+    }
+}
+
+fn record(event: Event) -> Record {
+    let Report { kind, word } = report(event.report);
+    Record {
+        cycle: u16::try_from(event.cycle).unwrap_or(u16::MAX),
+        channel: match event.side {
+            Side::One => ChannelId::One,
+            Side::Two => ChannelId::Two,
+        },
+        kind,
+        word,
     }
 }

@@ -3,9 +3,10 @@
 use crate::call::Call;
 use crate::counts::Counts;
 use crate::history::{Device, History};
-use crate::play::play;
+use crate::play::Trial;
 use crate::stop::{Difference, Stop};
 use std::alloc::{AllocError, Global};
+use std::fmt;
 
 // How often a shorter history is tried at most.
 const TRIES: u32 = 4_000;
@@ -18,60 +19,75 @@ pub(crate) struct Found {
 }
 
 // The difference of calls, if they have one.
-pub(crate) fn difference(heap: Global, device: Device, calls: &Vec<Call>) -> Option<Difference> {
+fn difference(heap: Global, device: Device, calls: &[Call]) -> Option<Difference> {
     let mut counts = Counts::new();
-    match play(heap, device, calls, &mut counts) {
+    let trial = Trial {
+        heap,
+        calls,
+        counts: &mut counts,
+    };
+    match trial.play(device) {
         Err(Stop::Differs(difference)) => Some(difference),
         _ => None,
     }
 }
 
-// The calls without some, and cut after the call that differs.
-fn without(
-    heap: Global,
-    calls: &Vec<Call>,
-    from: usize,
-    count: usize,
-    last: usize,
-) -> Result<Vec<Call>, AllocError> {
-    let mut rest = Vec::new(heap);
-    for (place, call) in calls.iter().enumerate() {
-        if place <= last && (place < from || place >= from.saturating_add(count)) {
-            rest.push(*call)?;
-        }
+impl Found {
+    // The calls up to the one that differs, without some.
+    fn without(&self, heap: Global, from: usize, count: usize) -> Result<Vec<Call>, AllocError> {
+        let calls = self.history.calls.iter();
+        let calls = calls.take(self.difference.place.call.saturating_add(1));
+        let left_out = from..from.saturating_add(count);
+        calls
+            .enumerate()
+            .filter(|(place, _)| !left_out.contains(place))
+            .map(|(_, call)| *call)
+            .collect(heap)
     }
-    Ok(rest)
-}
 
-// Takes the calls if they still differ.
-fn take(heap: Global, found: &mut Found, calls: Vec<Call>) -> bool {
-    let device = found.history.device;
-    let Some(difference) = difference(heap, device, &calls) else {
-        return false;
-    };
-    *found = Found {
-        history: History { device, calls },
-        difference,
-    };
-    true
-}
+    // Takes the calls if they still differ.
+    fn take(&mut self, heap: Global, calls: Vec<Call>) -> bool {
+        let Some(difference) = difference(heap, self.history.device, &calls) else {
+            return false;
+        };
+        self.history.calls = calls;
+        self.difference = difference;
+        true
+    }
 
-// Leaves out ever smaller parts, as long as the history still differs.
-pub(crate) fn shortest(heap: Global, found: &mut Found) -> Result<(), AllocError> {
-    let mut part = found.history.calls.len();
-    let mut at = 0usize;
-    for _ in 0..TRIES {
-        if at >= found.history.calls.len() {
-            if part <= 1 {
-                break;
+    // Leaves out ever smaller parts, as long as the history still differs.
+    pub(crate) fn shorten(&mut self, heap: Global) -> Result<(), AllocError> {
+        let mut part = self.history.calls.len();
+        let mut at = 0usize;
+        for _ in 0..TRIES {
+            if at >= self.history.calls.len() {
+                if part <= 1 {
+                    break;
+                }
+                part /= 2;
+                at = 0;
             }
-            part = part / 2;
-            at = 0;
+            let calls = self.without(heap, at, part)?;
+            if !self.take(heap, calls) {
+                at = at.saturating_add(part);
+            }
         }
-        let calls = without(heap, &found.history.calls, at, part, found.difference.call)?;
-        if !take(heap, found, calls) {
-            at = at.saturating_add(part);
-        }
+        Ok(())
     }
-    Ok(())
+}
+
+impl fmt::Display for Found {
+    fn fmt<W: fmt::Write>(&self, f: &mut fmt::Formatter<W>) -> fmt::Result {
+        let History {
+            seed,
+            device,
+            calls,
+        } = &self.history;
+        write!(
+            f,
+            "Seed {seed}, {} calls of {device}:\n  {}",
+            calls.len(),
+            self.difference
+        )
+    }
 }

@@ -1,0 +1,81 @@
+// What the second model shows of a channel, to see what changes.
+
+use bitflags::bitflags;
+use second_model::{Hearing, Source, Transmitter, View};
+
+// Which facts hold of a channel. It is a set of bits, since each cycle compares it with the one before.
+#[derive(Clone, Copy, PartialEq, Eq, Debug)]
+pub(crate) struct State(u32);
+
+bitflags! {
+    impl State: u32 {
+        const REQUEST_RDRF = 1;
+        const REQUEST_FOB = 1 << 1;
+        const REQUEST_PAR = 1 << 2;
+        const REQUEST_DSRT = 1 << 3;
+        const REQUEST_DCDT = 1 << 4;
+        const REQUEST_CTST = 1 << 5;
+        const REQUEST_TDRE = 1 << 6;
+        const RDRF = 1 << 7;
+        const FOB = 1 << 8;
+        const PAR = 1 << 9;
+        const DSRT = 1 << 10;
+        const DCDT = 1 << 11;
+        const CTST = 1 << 12;
+        const TDRE = 1 << 13;
+        const FE = 1 << 14;
+        const OVR = 1 << 15;
+        const BRK = 1 << 16;
+        const ASLEEP = 1 << 17;
+        const TDR_FULL = 1 << 18;
+        const SENDS = 1 << 19;
+        const BREAKS = 1 << 20;
+        const GATHERS = 1 << 21;
+        const WAITS = 1 << 22;
+        const OTHER_FORMAT = 1 << 23;
+        const TUR = 1 << 24;
+        const SHOWS_PARITY = 1 << 25;
+        // goes to and fro with each false start bit
+        const FALSE_START = 1 << 26;
+    }
+}
+
+// The interrupt sources, each with its request and its flag.
+const SOURCES: [(Source, State, State); 7] = [
+    (Source::Rdrf, State::REQUEST_RDRF, State::RDRF),
+    (Source::Fob, State::REQUEST_FOB, State::FOB),
+    (Source::Par, State::REQUEST_PAR, State::PAR),
+    (Source::Dsrt, State::REQUEST_DSRT, State::DSRT),
+    (Source::Dcdt, State::REQUEST_DCDT, State::DCDT),
+    (Source::Ctst, State::REQUEST_CTST, State::CTST),
+    (Source::Tdre, State::REQUEST_TDRE, State::TDRE),
+];
+
+impl From<View<'_>> for State {
+    fn from(view: View<'_>) -> State {
+        let mut state = State::empty();
+        for (source, request, flag) in SOURCES {
+            state.set(request, view.requests.has(source));
+            state.set(flag, view.flags.has(source));
+        }
+        state.set(State::FE, view.errors.framing);
+        state.set(State::OVR, view.errors.overrun);
+        state.set(State::BRK, view.errors.broken);
+        state.set(State::ASLEEP, view.asleep);
+        state.set(State::TDR_FULL, view.tdr_full);
+        match view.transmitter {
+            Transmitter::Rests => state.set(State::TUR, view.flags.has(Source::Tdre)),
+            Transmitter::Sends(_) => state.insert(State::SENDS),
+            Transmitter::Breaks { .. } => state.insert(State::BREAKS),
+        }
+        match view.hearing {
+            Hearing::Hunts => {}
+            Hearing::Gathers(_) => state.insert(State::GATHERS),
+            Hearing::Waits => state.insert(State::WAITS),
+        }
+        state.set(State::OTHER_FORMAT, view.other_format);
+        state.set(State::SHOWS_PARITY, view.show_parity_bit);
+        state.set(State::FALSE_START, view.false_starts % 2 == 1);
+        state
+    }
+}
