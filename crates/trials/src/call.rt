@@ -40,13 +40,20 @@ pub(crate) struct Stretch {
     pub(crate) marked: MarkedCycles,
 }
 
+// A read and a write at one select that stay open during the next so many calls.
+#[derive(Clone, Copy, PartialEq, Eq, Debug)]
+pub(crate) struct Held {
+    pub(crate) select: u8,
+    pub(crate) byte: u8,
+    pub(crate) span: u8,
+}
+
 #[derive(Clone, Copy, PartialEq, Eq, Debug)]
 pub(crate) enum Call {
     Reset,
     Read(u8),
     Write(u8, u8),
-    // a read and a write at one select that stay open during the next so many calls
-    Held { select: u8, byte: u8, span: u8 },
+    Held(Held),
     Modem(ChannelId, ModemLine, bool),
     Run(Stretch),
     SetUp(u8, u8),
@@ -110,11 +117,7 @@ impl Call {
     // How many calls are made while it is open. At a select that no register has nothing stays open.
     pub(crate) fn span(self) -> usize {
         match self {
-            Call::Held {
-                select: 0..=7,
-                span,
-                ..
-            } => usize::from(span),
+            Call::Held(held) if held.select < 8 => usize::from(held.span),
             _ => 0,
         }
     }
@@ -168,12 +171,10 @@ impl fmt::Display for Call {
             Call::Reset => f.write_str("reset"),
             Call::Read(select) => write!(f, "read at select {select}"),
             Call::Write(select, byte) => write!(f, "write ${byte:02X} at select {select}"),
-            Call::Held { select, byte, span } => {
-                write!(
-                    f,
-                    "read, and write ${byte:02X}, at select {select}, open during {span} calls"
-                )
-            }
+            Call::Held(Held { select, byte, span }) => write!(
+                f,
+                "read, and write ${byte:02X}, at select {select}, open during {span} calls"
+            ),
             Call::Modem(channel, line, high) => {
                 write!(f, "{line}{} goes {}", channel.number(), level(*high))
             }

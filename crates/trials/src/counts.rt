@@ -3,196 +3,14 @@
 use crate::answer::Answer;
 use crate::call::Call;
 use crate::channels::Channels;
+use crate::counted::{CHANGES, EVENTS, Event};
 use crate::state::State;
 use dacia::access::Place;
 use std::alloc::{AllocError, Global};
 use terms::channel_id::ChannelId;
-use terms::note::{ReadNote, Reading, WriteNote};
-use terms::refusal::Refusal;
+use terms::note::Reading;
 use terms::register::Register;
 use terms::report::{Report, ReportKind};
-
-// An event that is counted beside the changes of the channels.
-#[derive(Clone, Copy, PartialEq, Eq, Debug)]
-pub(crate) enum Event {
-    Report(ChannelId, ReportKind),
-    Refusal(Refusal),
-    Read(ReadNote),
-    Written(WriteNote),
-    BreakAsleep,
-    BreakWhileFull,
-    PassedWithLowStop,
-    PassedAndWakes,
-    KeptWithLowStop,
-    KeptClearsParity,
-    KeptClearsFault,
-    WrongParityBit,
-    ShownParityBit,
-    ShownParityZero,
-    FalseStart,
-    CtsFall,
-    SettingWhileSending,
-    SettingWhileGathering,
-    AuxiliaryWhileGathering,
-    ResetWhileSending,
-    ResetWhileBreaking,
-    ResetWhileGathering,
-    HeldAccess,
-    SetUp,
-    SetUpWhileSending,
-    Sweep,
-    TwoRecordsOfCycle,
-}
-
-// The facts of a channel whose changes are counted, with the names of their beginnings and their ends.
-const CHANGES: [(State, &str, &str); 26] = [
-    (
-        State::REQUEST_RDRF,
-        "request RDRF raised",
-        "request RDRF dropped",
-    ),
-    (
-        State::REQUEST_FOB,
-        "request F/O/B raised",
-        "request F/O/B dropped",
-    ),
-    (
-        State::REQUEST_PAR,
-        "request PAR raised",
-        "request PAR dropped",
-    ),
-    (
-        State::REQUEST_DSRT,
-        "request DSRT raised",
-        "request DSRT dropped",
-    ),
-    (
-        State::REQUEST_DCDT,
-        "request DCDT raised",
-        "request DCDT dropped",
-    ),
-    (
-        State::REQUEST_CTST,
-        "request CTST raised",
-        "request CTST dropped",
-    ),
-    (
-        State::REQUEST_TDRE,
-        "request TDRE raised",
-        "request TDRE dropped",
-    ),
-    (State::RDRF, "RDRF set", "RDRF cleared"),
-    (State::FOB, "F/O/B set", "F/O/B cleared"),
-    (State::PAR, "PAR set", "PAR cleared"),
-    (State::DSRT, "DSRT set", "DSRT cleared"),
-    (State::DCDT, "DCDT set", "DCDT cleared"),
-    (State::CTST, "CTST set", "CTST cleared"),
-    (State::TDRE, "TDRE set", "TDRE cleared"),
-    (State::FE, "FE set", "FE cleared"),
-    (State::OVR, "OVR set", "OVR cleared"),
-    (State::BRK, "BRK set", "BRK cleared"),
-    (State::ASLEEP, "receiver falls asleep", "receiver wakes"),
-    (State::TDR_FULL, "TDR filled", "TDR emptied"),
-    (
-        State::SENDS,
-        "frame sent from rest or after a break",
-        "transmitter stops sending",
-    ),
-    (State::BREAKS, "break sent", "transmitter stops a break"),
-    (
-        State::GATHERS,
-        "receiver begins to gather",
-        "receiver stops gathering",
-    ),
-    (
-        State::WAITS,
-        "receiver begins to wait",
-        "receiver stops waiting",
-    ),
-    (
-        State::OTHER_FORMAT,
-        "CR or FR changed in a received frame",
-        "frame of another format ends",
-    ),
-    (State::TUR, "TUR set", "TUR cleared"),
-    (State::SHOWS_PARITY, "ACR bit 0 set", "ACR bit 0 cleared"),
-];
-
-// The events, with their names.
-const EVENTS: [(Event, &str); 42] = [
-    (
-        Event::Report(ChannelId::One, ReportKind::Break),
-        "break on channel 1",
-    ),
-    (
-        Event::Report(ChannelId::One, ReportKind::Passed),
-        "passed on channel 1",
-    ),
-    (
-        Event::Report(ChannelId::One, ReportKind::Lost),
-        "lost on channel 1",
-    ),
-    (
-        Event::Report(ChannelId::One, ReportKind::Kept),
-        "kept on channel 1",
-    ),
-    (
-        Event::Report(ChannelId::Two, ReportKind::Break),
-        "break on channel 2",
-    ),
-    (
-        Event::Report(ChannelId::Two, ReportKind::Passed),
-        "passed on channel 2",
-    ),
-    (
-        Event::Report(ChannelId::Two, ReportKind::Lost),
-        "lost on channel 2",
-    ),
-    (
-        Event::Report(ChannelId::Two, ReportKind::Kept),
-        "kept on channel 2",
-    ),
-    (Event::Refusal(Refusal::NoSuchSelect), "refusal 1"),
-    (Event::Refusal(Refusal::NothingToRead), "refusal 2"),
-    (Event::Refusal(Refusal::BadControl), "refusal 3"),
-    (Event::Refusal(Refusal::BadFormat), "refusal 4"),
-    (Event::Refusal(Refusal::LineNotQuiet), "refusal 5"),
-    (Event::Refusal(Refusal::BadSweepLength), "refusal 6"),
-    (Event::Refusal(Refusal::TooFewRecords), "refusal 7"),
-    (Event::Read(ReadNote::Fresh), "note fresh"),
-    (Event::Read(ReadNote::Old), "note old"),
-    (Event::Written(WriteNote::Stored), "note stored"),
-    (Event::Written(WriteNote::Replaced), "note replaced"),
-    (Event::BreakAsleep, "break while asleep"),
-    (Event::BreakWhileFull, "break while RDRF is set"),
-    (Event::PassedWithLowStop, "passed with a low stop bit"),
-    (Event::PassedAndWakes, "passed and wakes"),
-    (Event::KeptWithLowStop, "kept with a low stop bit"),
-    (Event::KeptClearsParity, "kept clears PAR"),
-    (Event::KeptClearsFault, "kept clears F/O/B"),
-    (Event::WrongParityBit, "PAR by a wrong parity bit"),
-    (Event::ShownParityBit, "PAR by a shown parity bit"),
-    (Event::ShownParityZero, "PAR 0 by a shown parity bit"),
-    (Event::FalseStart, "false start bit"),
-    (Event::CtsFall, "TDRE by a fall of CTS"),
-    (Event::SettingWhileSending, "CR or FR written while sending"),
-    (
-        Event::SettingWhileGathering,
-        "CR or FR written while gathering",
-    ),
-    (
-        Event::AuxiliaryWhileGathering,
-        "CDR or ACR written while gathering",
-    ),
-    (Event::ResetWhileSending, "reset while sending"),
-    (Event::ResetWhileBreaking, "reset while breaking"),
-    (Event::ResetWhileGathering, "reset while gathering"),
-    (Event::HeldAccess, "access ended after other calls"),
-    (Event::SetUp, "set-up accepted"),
-    (Event::SetUpWhileSending, "set-up accepted while sending"),
-    (Event::Sweep, "sweep accepted"),
-    (Event::TwoRecordsOfCycle, "two records of one cycle"),
-];
 
 // How often the thing of a name was seen.
 #[derive(Clone, Copy, PartialEq, Eq, Debug)]
@@ -215,6 +33,7 @@ struct Seen {
     count: Count,
 }
 
+// The counts are lists and no maps: the terms of the chip have no order to be keys, and the table has an order of its own.
 #[derive(Drop)]
 pub(crate) struct Counts {
     changes: [Change; 26],
@@ -260,14 +79,16 @@ impl Counts {
         *calls = calls.saturating_add(1);
     }
 
+    fn add(&mut self, event: Event) {
+        if let Some(seen) = self.events.iter_mut().find(|seen| seen.event == event) {
+            seen.count.add();
+        }
+    }
+
     // Counts an event if it happened.
     pub(crate) fn see(&mut self, event: Event, happened: bool) {
         if happened {
-            for seen in &mut self.events {
-                if seen.event == event {
-                    seen.count.add();
-                }
-            }
+            self.add(event);
         }
     }
 
@@ -299,7 +120,7 @@ impl Counts {
     ) {
         self.change(was, is);
         if let Some(Report { kind, word: _ }) = report {
-            self.see(Event::Report(channel, kind), true);
+            self.add(Event::Report(channel, kind));
             self.ending(kind, was, is);
         }
     }
@@ -340,29 +161,21 @@ impl Counts {
     ) {
         let either = was.one.union(was.two);
         if let Some(refusal) = answer.refusal() {
-            self.see(Event::Refusal(refusal), true);
+            self.add(Event::Refusal(refusal));
         }
         match (call, answer) {
-            (
-                Call::Read(_),
-                Answer::Read(
-                    Ok(
-                        Reading {
-                            note: Some(note),
-                            ..
-                        },
-                    ),
-                ),
-            ) => {
-                self.see(Event::Read(note), true);
+            (Call::Read(_), Answer::Read(Ok(Reading { note, byte: _ }))) => {
+                if let Some(note) = note {
+                    self.add(Event::Read(note));
+                }
             }
             (Call::Write(select, _), Answer::Write(Ok(note))) => {
                 if let Some(note) = note {
-                    self.see(Event::Written(note), true);
+                    self.add(Event::Written(note));
                 }
                 self.setting(select, was);
             }
-            (Call::Held { span, .. }, _) => self.see(Event::HeldAccess, span > 0),
+            (Call::Held(held), _) => self.see(Event::HeldAccess, held.span > 0),
             (Call::Reset, _) => {
                 self.see(Event::ResetWhileSending, either.contains(State::SENDS));
                 self.see(Event::ResetWhileBreaking, either.contains(State::BREAKS));
@@ -373,10 +186,10 @@ impl Counts {
                 self.see(Event::CtsFall, begun.contains(State::TDRE));
             }
             (Call::SetUp(_, _), Answer::SetUp(Ok(()))) => {
-                self.see(Event::SetUp, true);
+                self.add(Event::SetUp);
                 self.see(Event::SetUpWhileSending, either.contains(State::SENDS));
             }
-            (Call::Sweep { .. }, Answer::Sweep(Ok(_))) => self.see(Event::Sweep, true),
+            (Call::Sweep { .. }, Answer::Sweep(Ok(_))) => self.add(Event::Sweep),
             _ => {}
         }
         // a set-up puts in another chip, which has not changed

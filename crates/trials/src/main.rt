@@ -4,6 +4,7 @@
 mod answer;
 mod call;
 mod channels;
+mod counted;
 mod counts;
 mod first;
 mod history;

@@ -1,6 +1,6 @@
 // Makes random histories that reach the rare rules: it keeps in mind what it wrote to CR, FR and CDR, to send fitting frames.
 
-use crate::call::{Call, MarkedCycles, Signal, Stretch};
+use crate::call::{Call, Held, MarkedCycles, Signal, Stretch};
 use crate::channels::Channels;
 use crate::history::{Cable, Device, History, Kind};
 use crate::random::Random;
@@ -293,7 +293,7 @@ impl Maker {
         };
         let byte = self.random.byte();
         self.keep(select, byte);
-        Call::Held { select, byte, span }
+        Call::Held(Held { select, byte, span })
     }
 
     // The first calls of a channel: they set a quick rate, any format and sources, and clear RDRF.
@@ -361,7 +361,18 @@ impl Maker {
 
     // The first calls of a board: both channels get a word, so that they may report in one cycle.
     fn first_board_calls(&mut self) -> [Call; 3] {
-        [self.set_up(), self.write(3, 0x41), self.write(7, 0x42)]
+        let tdr = |channel| {
+            Place {
+                channel,
+                register: Register::Data,
+            }
+            .select()
+        };
+        [
+            self.set_up(),
+            self.write(tdr(ChannelId::One), 0x41),
+            self.write(tdr(ChannelId::Two), 0x42),
+        ]
     }
 
     // A call of a board.

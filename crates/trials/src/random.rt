@@ -1,5 +1,6 @@
 // Random numbers from a seed.
 
+// SplitMix64. The kit has this generator too, but not its mixing of one number, which is used alone as well.
 #[derive(Drop)]
 pub(crate) struct Random {
     state: u64,

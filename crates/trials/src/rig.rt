@@ -1,9 +1,10 @@
 // Both models side by side: each call is made on both, and everything that they answer and show is compared.
 
 use crate::answer::Answer;
-use crate::call::{Call, Stretch};
+use crate::call::{Call, Held, Stretch};
 use crate::channels::Channels;
-use crate::counts::{Counts, Event};
+use crate::counted::Event;
+use crate::counts::Counts;
 use crate::played::{First, Second};
 use crate::records;
 use crate::second::{side, txd};
@@ -62,7 +63,7 @@ impl<'a, F: First, S: Second> Rig<'a, F, S> {
             self.place.call = calls.len().saturating_sub(rest.len());
             let (during, after) = later.split_at(call.span().min(later.len()));
             match *call {
-                Call::Held { select, byte, .. } => self.hold(*call, select, byte, during)?,
+                Call::Held(held) => self.hold(held, during)?,
                 call => self.play(call)?,
             }
             rest = after;
@@ -77,7 +78,7 @@ impl<'a, F: First, S: Second> Rig<'a, F, S> {
         let first = &mut self.first;
         let second = &mut self.second;
         let answer = match call {
-            Call::Read(select) | Call::Held { select, .. } => {
+            Call::Read(select) | Call::Held(Held { select, .. }) => {
                 place.same(Answer::Read, first.read(select), second.read(select))?
             }
             Call::Write(select, byte) => place.same(
@@ -122,13 +123,13 @@ impl<'a, F: First, S: Second> Rig<'a, F, S> {
     }
 
     // A read and a write at a select that are opened, and ended after other calls.
-    fn hold(&mut self, call: Call, select: u8, byte: u8, during: &[Call]) -> Result<(), Stop> {
+    fn hold(&mut self, held: Held, during: &[Call]) -> Result<(), Stop> {
+        let Held { select, byte, .. } = held;
         let Ok(read) = ReadAccess::open(select) else {
             return self.play(Call::Read(select));
         };
         let Ok(write) = WriteAccess::open(select) else {
-            let _ = self.first.end_read(read);
-            return self.play(Call::Write(select, byte));
+            unreachable!()
         };
         let played = self.between(during);
         let read = self.first.end_read(read);
@@ -137,7 +138,7 @@ impl<'a, F: First, S: Second> Rig<'a, F, S> {
         self.place
             .same(Answer::Read, read, self.second.read(select))?;
         let answer = self.place.same(Answer::Write, Ok(written), self.second.write(select, byte))?;
-        self.end(call, answer)
+        self.end(Call::Held(held), answer)
     }
 
     // Plays the calls during which an access is open.
@@ -193,8 +194,8 @@ impl<'a, F: First, S: Second> Rig<'a, F, S> {
         for (record, expected) in first.iter().zip(&second) {
             self.place.same(Answer::Record, *record, *expected)?;
         }
-        let written = second.get(..expected.unwrap_or(0)).unwrap_or(&[]);
-        self.neighbours = records::has_neighbours(written);
+        let reports = second.get(..expected.unwrap_or(0)).unwrap_or(&[]);
+        self.neighbours = records::has_neighbours(reports);
         Ok(answer)
     }
 }
