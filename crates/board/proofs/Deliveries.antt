@@ -115,12 +115,12 @@ module _ (cr fr D : ℕ) (dv : divisor (rate_code cr) ≡ Some D) (d : ChannelId
   fresh_note false = refl
 
   rdr_link : (ch : ChannelId) (w : Played) → Inv w → let k : Link = link_of ch w.board in
-      LinkInv (format_of cr fr) (d ch) D (record { phase = k.phase; cts = k.cts; sender = k.sender; line = k.line; receiving = emptied k.receiving })
+      LinkInv (format_of cr fr) (d ch) D (record k { receiving = emptied k.receiving })
       (past_read (is_fresh (reading k.receiving).note) k.receiving.rdr (past_of ch w.past))
   rdr_link ch w i =
       let k : Link = link_of ch w.board in
       let P : Bool → Type 0 = λ b.
-      LinkInv (format_of cr fr) (d ch) D (record { phase = k.phase; cts = k.cts; sender = k.sender; line = k.line; receiving = emptied k.receiving })
+      LinkInv (format_of cr fr) (d ch) D (record k { receiving = emptied k.receiving })
       (past_read b k.receiving.rdr (past_of ch w.past)) in
       subst P (sym (fresh_note k.receiving.rdrf)) (read_inv (format_of cr fr) (d ch) D k (past_of ch w.past) (i.links ch))
 
@@ -148,12 +148,12 @@ module _ (cr fr D : ℕ) (dv : divisor (rate_code cr) ≡ Some D) (d : ChannelId
   replaced_note false = refl
 
   send_link : (ch : ChannelId) (v : ℕ) (w : Played) → Inv w → let k : Link = link_of ch w.board in
-      LinkInv (format_of cr fr) (d ch) D (record { phase = k.phase; cts = k.cts; sender = filled v k.sender; line = k.line; receiving = k.receiving })
+      LinkInv (format_of cr fr) (d ch) D (record k { sender = filled v k.sender })
       (past_write (is_replaced (Some (tdr_note k.sender))) v (past_of ch w.past))
   send_link ch v w i =
       let k : Link = link_of ch w.board in
       let P : Bool → Type 0 = λ b.
-      LinkInv (format_of cr fr) (d ch) D (record { phase = k.phase; cts = k.cts; sender = filled v k.sender; line = k.line; receiving = k.receiving })
+      LinkInv (format_of cr fr) (d ch) D (record k { sender = filled v k.sender })
       (past_write b v (past_of ch w.past)) in
       subst P (sym (replaced_note (is_empty k.sender.tdr))) (write_inv (format_of cr fr) (d ch) D k (past_of ch w.past) v (i.links ch))
 

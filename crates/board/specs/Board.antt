@@ -18,7 +18,7 @@ pub record State : Type 0 where
   pub b : List Bool
 
 abbrev pub with_chip : Chip → State → State
-with_chip c s = record { chip = c; a = s.a; b = s.b }
+with_chip c s = record s { chip = c }
 
 -- the levels of TxD, which the lines are given
 abbrev pub txd1 : State → Bool

@@ -68,11 +68,9 @@ longest_over cts (suc k) row longest = longest_after cts (row_over cts k row) (l
 
 -- a sweep of k cycles with its records
 abbrev pub past_sweep : Bool → ChannelId → ℕ → List Record → Past → Past
-past_sweep cts to k rs p = record {
+past_sweep cts to k rs p = record p {
   arrived = p.arrived ++ words_in arrived_of to rs;
   kept = p.kept ++ words_in kept_of to rs;
-  fresh = p.fresh;
-  unreplaced = p.unreplaced;
   row = row_over cts k p.row;
   longest = longest_over cts k p.row p.longest;
 }

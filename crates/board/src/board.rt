@@ -53,7 +53,7 @@ fn sweep_allowed(k: u16, room: usize) -> Result<(), Refusal>
     Ok(())
 }
 
-// A chip that is reset and set up: both values written to both channels, both RDRs read.
+// A chip that is reset and set up: both values written to both channels, both RDRs read. They are two bytes and no struct, as each is written alone.
 fn set_up_chip(cr: u8, fr: u8) -> Result<Chip, Refusal>
     ensures { result ≡ Ok (set_up_chip cr fr) }
 {
@@ -98,7 +98,7 @@ impl<A: Line, B: Line> Board<A, B> {
         })
     }
 
-    // Sets the board up: a reset chip with both values written to both channels and both RDRs read.
+    // Sets the board up: a reset chip with both values, CR and FR, written to both channels, and both RDRs read.
     // From here on no list of reads, IER and TDR writes, modem levels, cycles and sweeps loses, alters or reorders a word.
     pub fn set_up(&mut self, cr: u8, fr: u8) -> Result<(), Refusal>
         ensures answers { result ≡ set_up_answer cr fr self.old }

@@ -14,7 +14,7 @@ pub struct Record {
     pub word: u8,
 }
 
-// Writes the record of a report, if there is one, at a place, and answers the next place.
+// Writes the record of a report, if there is one, at a place, and answers the next place. The caller lends the records: a sweep asks for no memory.
 pub(crate) fn put(
     records: &mut [Record],
     at: usize,

@@ -74,58 +74,6 @@ fn format_of(size: Size, parity: u8, control: (u8, u8)) -> Format {
     }
 }
 
-// Word by word channel 1 sends 0 to 255, and channel 2 sends 255 to 0.
-fn send<A: Line, B: Line>(
-    rt: &impl Abort,
-    board: &mut Board<A, B>,
-    format: Format,
-    word: u8,
-) -> Result<(), Fail> {
-    let Format { cr, fr, .. } = format;
-    assert_eq!(rt;
-        board.write(3, word)?,
-        Some(WriteNote::Stored),
-        "CR {cr} FR {fr} frame {word}"
-    );
-    assert_eq!(rt;
-        board.write(7, 255 - word)?,
-        Some(WriteNote::Stored),
-        "CR {cr} FR {fr} frame {word}"
-    );
-    Ok(())
-}
-
-// What a channel reports is none, or the next word, which is kept and read fresh at once; whether it was a word.
-fn hear<A: Line, B: Line>(
-    rt: &impl Abort,
-    board: &mut Board<A, B>,
-    format: Format,
-    select: u8,
-    report: Option<Report>,
-    sent: u8,
-) -> Result<bool, Fail> {
-    let Some(report) = report else {
-        return Ok(false);
-    };
-    let Format { cr, fr, .. } = format;
-    let word = sent & format.mask;
-    let kept = Report {
-        kind: ReportKind::Kept,
-        word,
-    };
-    assert_eq!(rt; report, kept, "CR {cr} FR {fr} select {select}");
-    let fresh = Reading {
-        byte: word,
-        note: Some(ReadNote::Fresh),
-    };
-    assert_eq!(rt;
-        board.read(select)?,
-        fresh,
-        "CR {cr} FR {fr} select {select}"
-    );
-    Ok(true)
-}
-
 // How many words each channel has heard.
 #[derive(Clone, Copy)]
 struct Heard {
@@ -134,59 +82,114 @@ struct Heard {
     all: u16,
 }
 
-// The cycles of a frame.
-fn run_frame<A: Line, B: Line>(
-    rt: &impl Abort,
-    board: &mut Board<A, B>,
+const NONE_YET: Heard = Heard {
+    one: 0,
+    two: 0,
+    all: 0,
+};
+
+// All words of a format on their way over a board.
+#[derive(Drop)]
+struct Run<A: Line, B: Line> {
+    board: Board<A, B>,
     format: Format,
-    before: Heard,
-) -> Result<Heard, Fail> {
-    let mut heard = before;
-    for _ in 0..format.cycles {
-        let answer = board.cycle();
-        if hear(rt, board, format, 3, answer.one.report, 255 - heard.one)? {
-            heard.one = heard.one.wrapping_add(1);
-            heard.all = heard.all.wrapping_add(1);
-        }
-        if hear(rt, board, format, 7, answer.two.report, heard.two)? {
-            heard.two = heard.two.wrapping_add(1);
-            heard.all = heard.all.wrapping_add(1);
-        }
-    }
-    Ok(heard)
+    heard: Heard,
 }
 
-// All words of a format, frame behind frame.
-fn carries<A: Line, B: Line>(
+impl<A: Line, B: Line> Run<A, B> {
+    // Word by word channel 1 sends 0 to 255, and channel 2 sends 255 to 0.
+    fn send(&mut self, rt: &impl Abort, word: u8) -> Result<(), Fail> {
+        let Format { cr, fr, .. } = self.format;
+        for (select, sent) in [(3, word), (7, 255 - word)] {
+            assert_eq!(rt;
+                self.board.write(select, sent)?,
+                Some(WriteNote::Stored),
+                "CR {cr} FR {fr} frame {word}"
+            );
+        }
+        Ok(())
+    }
+
+    // What a channel reports is none, or the next word, which is kept and read fresh at once; whether it was a word.
+    fn hear(
+        &mut self,
+        rt: &impl Abort,
+        select: u8,
+        report: Option<Report>,
+        sent: u8,
+    ) -> Result<bool, Fail> {
+        let Some(report) = report else {
+            return Ok(false);
+        };
+        let Format { cr, fr, .. } = self.format;
+        let word = sent & self.format.mask;
+        let kept = Report {
+            kind: ReportKind::Kept,
+            word,
+        };
+        assert_eq!(rt; report, kept, "CR {cr} FR {fr} select {select}");
+        let fresh = Reading {
+            byte: word,
+            note: Some(ReadNote::Fresh),
+        };
+        assert_eq!(rt;
+            self.board.read(select)?,
+            fresh,
+            "CR {cr} FR {fr} select {select}"
+        );
+        self.heard.all = self.heard.all.wrapping_add(1);
+        Ok(true)
+    }
+
+    // The cycles of a frame.
+    fn frame(&mut self, rt: &impl Abort) -> Result<(), Fail> {
+        for _ in 0..self.format.cycles {
+            let answer = self.board.cycle();
+            if self.hear(rt, 3, answer.one.report, 255 - self.heard.one)? {
+                self.heard.one = self.heard.one.wrapping_add(1);
+            }
+            if self.hear(rt, 7, answer.two.report, self.heard.two)? {
+                self.heard.two = self.heard.two.wrapping_add(1);
+            }
+        }
+        Ok(())
+    }
+
+    // All words, frame behind frame.
+    fn all(&mut self, rt: &impl Abort) -> Result<(), Fail> {
+        let Format { cr, fr, .. } = self.format;
+        self.board.set_up(cr, fr)?;
+        for frame in 0..FRAMES {
+            if frame < WORDS {
+                self.send(rt, frame as u8)?;
+            }
+            self.frame(rt)?;
+        }
+        // 256 words each, so that the count of each is back at 0
+        let Heard { one, two, all } = self.heard;
+        assert_eq!(rt; all, 512, "CR {cr} FR {fr}");
+        assert_eq!(rt; one, 0, "CR {cr} FR {fr}");
+        assert_eq!(rt; two, 0, "CR {cr} FR {fr}");
+        Ok(())
+    }
+}
+
+// All words of all formats, one format after the other.
+fn carries_all<A: Line + Drop, B: Line + Drop>(
     rt: &impl Abort,
-    board: &mut Board<A, B>,
-    format: Format,
+    first: Board<A, B>,
 ) -> Result<(), Fail> {
-    board.set_up(format.cr, format.fr)?;
-    let mut heard = Heard {
-        one: 0,
-        two: 0,
-        all: 0,
-    };
-    for frame in 0..FRAMES {
-        if frame < WORDS {
-            send(rt, board, format, frame as u8)?;
-        }
-        heard = run_frame(rt, board, format, heard)?;
-    }
-    // 256 words each, so that the count of each is back at 0
-    assert_eq!(rt; heard.all, 512, "CR {} FR {}", format.cr, format.fr);
-    assert_eq!(rt; heard.one, 0, "CR {} FR {}", format.cr, format.fr);
-    assert_eq!(rt; heard.two, 0, "CR {} FR {}", format.cr, format.fr);
-    Ok(())
-}
-
-fn carries_all<A: Line, B: Line>(rt: &impl Abort, board: &mut Board<A, B>) -> Result<(), Fail> {
+    let mut board = first;
     for size in SIZES {
         for parity in PARITIES {
             for control in CONTROLS {
-                let format = format_of(size, parity, control);
-                carries(rt, board, format)?;
+                let mut run = Run {
+                    board,
+                    format: format_of(size, parity, control),
+                    heard: NONE_YET,
+                };
+                run.all(rt)?;
+                board = run.board;
             }
         }
     }
@@ -199,19 +202,19 @@ fn long_line() -> Joint<Joint<TableLine, TableLine>, Wire> {
 
 #[test]
 fn words_cross_wires(rt: HostRuntime) -> Result<(), Fail> {
-    carries_all(&rt, &mut Board::new(Wire, Wire))
+    carries_all(&rt, Board::new(Wire, Wire))
 }
 
 #[test]
 fn words_cross_a_table_line_and_a_wire(rt: HostRuntime) -> Result<(), Fail> {
-    carries_all(&rt, &mut Board::new(TableLine::new(), Wire))
+    carries_all(&rt, Board::new(TableLine::new(), Wire))
 }
 
 #[test]
 fn words_cross_a_joint_and_a_table_line(rt: HostRuntime) -> Result<(), Fail> {
     carries_all(
         &rt,
-        &mut Board::new(Joint::new(Wire, TableLine::new()), TableLine::new()),
+        Board::new(Joint::new(Wire, TableLine::new()), TableLine::new()),
     )
 }
 
@@ -219,11 +222,11 @@ fn words_cross_a_joint_and_a_table_line(rt: HostRuntime) -> Result<(), Fail> {
 fn words_cross_a_joint_of_a_joint_and_a_joint(rt: HostRuntime) -> Result<(), Fail> {
     carries_all(
         &rt,
-        &mut Board::new(long_line(), Joint::new(Wire, TableLine::new())),
+        Board::new(long_line(), Joint::new(Wire, TableLine::new())),
     )
 }
 
 #[test]
 fn words_cross_a_wire_and_a_joint_of_a_joint(rt: HostRuntime) -> Result<(), Fail> {
-    carries_all(&rt, &mut Board::new(Wire, long_line()))
+    carries_all(&rt, Board::new(Wire, long_line()))
 }

@@ -24,22 +24,22 @@ use Rattle.channel.specs.Receiving.{no_errors, emptied, heard_by}
 
 -- one part of a channel changed
 abbrev pub with_control : Control → Channel → Channel
-with_control k c = record { control = k; modem = c.modem; interrupts = c.interrupts; sender = c.sender; receiving = c.receiving; count = c.count }
+with_control k c = record c { control = k }
 
 abbrev pub with_modem : Modem → Channel → Channel
-with_modem m c = record { control = c.control; modem = m; interrupts = c.interrupts; sender = c.sender; receiving = c.receiving; count = c.count }
+with_modem m c = record c { modem = m }
 
 abbrev pub with_interrupts : Interrupts → Channel → Channel
-with_interrupts i c = record { control = c.control; modem = c.modem; interrupts = i; sender = c.sender; receiving = c.receiving; count = c.count }
+with_interrupts i c = record c { interrupts = i }
 
 abbrev pub with_sender : Sender → Channel → Channel
-with_sender s c = record { control = c.control; modem = c.modem; interrupts = c.interrupts; sender = s; receiving = c.receiving; count = c.count }
+with_sender s c = record c { sender = s }
 
 abbrev pub with_receiving : Receiving → Channel → Channel
-with_receiving r c = record { control = c.control; modem = c.modem; interrupts = c.interrupts; sender = c.sender; receiving = r; count = c.count }
+with_receiving r c = record c { receiving = r }
 
 abbrev pub with_count : ℕ → Channel → Channel
-with_count n c = record { control = c.control; modem = c.modem; interrupts = c.interrupts; sender = c.sender; receiving = c.receiving; count = n }
+with_count n c = record c { count = n }
 
 -- at power on everything is 0, except that RDRF is set; TDR is empty, the transmitter rests, the receiver hunts awake
 abbrev pub powered_on : Channel
@@ -54,13 +54,11 @@ powered_on = record {
 
 -- reset clears IER, RDR, ACR, the marks of modem changes, PAR, FE, OVR, BRK and all requests, wakes the receiver and sets FR bits 1 and 0
 abbrev pub after_reset : Channel → Channel
-after_reset c = record {
-  control = record { cr = c.control.cr; fr = bit_or c.control.fr 3; cdr = c.control.cdr; acr = 0 };
+after_reset c = record c {
+  control = record c.control { fr = bit_or c.control.fr 3; acr = 0 };
   modem = seen c.modem;
   interrupts = record { enabled = 0; requests = 0 };
-  sender = c.sender;
-  receiving = record { rdr = 0; rdrf = c.receiving.rdrf; errors = no_errors; asleep = false; receiver = c.receiving.receiver };
-  count = c.count;
+  receiving = record c.receiving { rdr = 0; errors = no_errors; asleep = false };
 }
 
 -- TDR is empty and CTS is low
@@ -116,28 +114,26 @@ rdr_read c = following all_but_tdre c (with_receiving (emptied c.receiving) c)
 -- writing CR: another rate code starts the count at 0
 abbrev pub cr_written : ℕ → Channel → Channel
 cr_written b c =
-    let k = c.control in
-    with_count (cond (rate_code b == rate_code k.cr) c.count 0) (with_control (record { cr = b; fr = k.fr; cdr = k.cdr; acr = k.acr }) c)
+    with_count (cond (rate_code b == rate_code c.control.cr) c.count 0) (with_control (record c.control { cr = b }) c)
 
 abbrev pub fr_written : ℕ → Channel → Channel
-fr_written b c = let k = c.control in with_control (record { cr = k.cr; fr = b; cdr = k.cdr; acr = k.acr }) c
+fr_written b c = with_control (record c.control { fr = b }) c
 
 -- bit 7 clear: CR; set: FR
 abbrev pub control_written : ℕ → Channel → Channel
 control_written b c = cond (bit b 7) (fr_written b c) (cr_written b c)
 
 abbrev pub acr_written : ℕ → Channel → Channel
-acr_written b c = let k = c.control in with_control (record { cr = k.cr; fr = k.fr; cdr = k.cdr; acr = b % 4 }) c
+acr_written b c = with_control (record c.control { acr = b % 4 }) c
 
 -- asleep, and RDRF clear
 abbrev pub asleep_now : Receiving → Receiving
-asleep_now r = record { rdr = r.rdr; rdrf = false; errors = r.errors; asleep = true; receiver = r.receiver }
+asleep_now r = record r { rdrf = false; asleep = true }
 
 -- writing CDR puts the receiver to sleep and clears RDRF
 abbrev pub cdr_written : ℕ → Channel → Channel
 cdr_written b c =
-    let k = c.control in
-    following all_but_tdre c (with_receiving (asleep_now c.receiving) (with_control (record { cr = k.cr; fr = k.fr; cdr = b; acr = k.acr }) c))
+    following all_but_tdre c (with_receiving (asleep_now c.receiving) (with_control (record c.control { cdr = b }) c))
 
 -- CR bit 6 clear: CDR; set: ACR
 abbrev pub auxiliary_written : ℕ → Channel → Channel

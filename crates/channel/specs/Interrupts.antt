@@ -9,10 +9,7 @@ risen before after = bit_and after (bit_xor before 0x7f)
 
 -- a bit that went to 0 drops its request; one that rose raises it, if it is enabled and may
 abbrev pub followed : ℕ → ℕ → ℕ → Interrupts → Interrupts
-followed may before after i = record {
-  enabled = i.enabled;
-  requests = bit_or (bit_and i.requests after) (bit_and (bit_and (risen before after) i.enabled) may);
-}
+followed may before after i = record i { requests = bit_or (bit_and i.requests after) (bit_and (bit_and (risen before after) i.enabled) may) }
 
 -- a request needs its source enabled
 abbrev pub with_enabled : ℕ → Interrupts → Interrupts
@@ -24,4 +21,4 @@ ier_written b i = with_enabled (cond (bit b 7) (bit_or i.enabled (bit_and b 0x7f
 
 -- all requests dropped
 abbrev pub dropped : Interrupts → Interrupts
-dropped i = record { enabled = i.enabled; requests = 0 }
+dropped i = record i { requests = 0 }

@@ -11,13 +11,13 @@ input_set true i = record { level = true; changed = cond i.level i.changed true 
 input_set false i = record { level = false; changed = cond i.level true i.changed }
 
 abbrev pub modem_set : ModemLine → Bool → Modem → Modem
-modem_set Cts l m = record { cts = input_set l m.cts; dcd = m.dcd; dsr = m.dsr }
-modem_set Dcd l m = record { cts = m.cts; dcd = input_set l m.dcd; dsr = m.dsr }
-modem_set Dsr l m = record { cts = m.cts; dcd = m.dcd; dsr = input_set l m.dsr }
+modem_set Cts l m = record m { cts = input_set l m.cts }
+modem_set Dcd l m = record m { dcd = input_set l m.dcd }
+modem_set Dsr l m = record m { dsr = input_set l m.dsr }
 
 -- the marks of change cleared
 abbrev pub unmarked : ModemInput → ModemInput
-unmarked i = record { level = i.level; changed = false }
+unmarked i = record i { changed = false }
 
 abbrev pub seen : Modem → Modem
 seen m = record { cts = unmarked m.cts; dcd = unmarked m.dcd; dsr = unmarked m.dsr }

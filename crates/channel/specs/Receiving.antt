@@ -16,13 +16,13 @@ abbrev pub no_errors : Errors
 no_errors = record { par = false; fe = false; ovr = false; brk = false }
 
 abbrev pub with_errors : Errors → Receiving → Receiving
-with_errors e r = record { rdr = r.rdr; rdrf = r.rdrf; errors = e; asleep = r.asleep; receiver = r.receiver }
+with_errors e r = record r { errors = e }
 
 abbrev pub with_asleep : Bool → Receiving → Receiving
-with_asleep a r = record { rdr = r.rdr; rdrf = r.rdrf; errors = r.errors; asleep = a; receiver = r.receiver }
+with_asleep a r = record r { asleep = a }
 
 abbrev pub with_receiver : Receiver → Receiving → Receiving
-with_receiver v r = record { rdr = r.rdr; rdrf = r.rdrf; errors = r.errors; asleep = r.asleep; receiver = v }
+with_receiver v r = record r { receiver = v }
 
 -- what a read of RDR answers: fresh if RDRF was set
 abbrev pub reading : Receiving → Reading
@@ -30,7 +30,7 @@ reading r = record { byte = r.rdr; note = Some (cond r.rdrf Fresh Old) }
 
 -- and it clears RDRF, PAR, FE, OVR and BRK
 abbrev pub emptied : Receiving → Receiving
-emptied r = record { rdr = r.rdr; rdrf = false; errors = no_errors; asleep = r.asleep; receiver = r.receiver }
+emptied r = record r { rdrf = false; errors = no_errors }
 
 abbrev pub report : ReportKind → ℕ → Report
 report k w = record { kind = k; word = w }
@@ -40,7 +40,7 @@ reported k w = Some (report k w)
 
 -- all bits were low: BRK
 abbrev pub broke : Receiving → Option Report × Receiving
-broke r = let e = r.errors in (reported Break 0, with_errors (record { par = e.par; fe = e.fe; ovr = e.ovr; brk = true }) r)
+broke r = (reported Break 0, with_errors (record r.errors { brk = true }) r)
 
 -- asleep: it wakes if the data equal CDR
 abbrev pub passed_by : ℕ → ℕ → Receiving → Option Report × Receiving
@@ -48,7 +48,7 @@ passed_by w cdr r = (reported Passed w, with_asleep (not (w == cdr)) r)
 
 -- RDRF was set: OVR, and RDR keeps its word
 abbrev pub overrun : ℕ → Receiving → Option Report × Receiving
-overrun w r = let e = r.errors in (reported Lost w, with_errors (record { par = e.par; fe = e.fe; ovr = true; brk = e.brk }) r)
+overrun w r = (reported Lost w, with_errors (record r.errors { ovr = true }) r)
 
 -- PAR tells a wrong parity bit, or with ACR bit 0 set it is the parity bit
 abbrev pub par_flag : Bool → Received → Bool
@@ -58,13 +58,7 @@ par_flag shown f = cond shown f.parity f.wrong
 abbrev pub kept : Received → Bool → Receiving → Option Report × Receiving
 kept f shown r = (
   reported Kept f.word,
-  record {
-    rdr = f.word;
-    rdrf = true;
-    errors = record { par = par_flag shown f; fe = not f.stop; ovr = r.errors.ovr; brk = r.errors.brk };
-    asleep = r.asleep;
-    receiver = r.receiver;
-  },
+  record r { rdr = f.word; rdrf = true; errors = record r.errors { par = par_flag shown f; fe = not f.stop } },
 )
 
 -- the end of a frame: the first rule that applies

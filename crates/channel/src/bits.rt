@@ -3,7 +3,7 @@ ghost use Rattle.std.specs.Prelude.{◌≡◌, ◌<◌, Bool};
 ghost use Rattle.serial.specs.Frame.{bit};
 ghost use Rattle.channel.specs.Bits.{byte_of};
 
-// Whether bit `k` of a byte is set.
+// Whether bit `k` of a byte is set. (That of a frame is `serial::format::bit_at`: one for both would widen the byte at each call.)
 pub(crate) fn is_set(byte: u8, k: u8) -> bool
     requires { k < 8 }
     ensures { result ≡ bit byte k }
@@ -11,7 +11,7 @@ pub(crate) fn is_set(byte: u8, k: u8) -> bool
     (byte >> k) & 1 == 1
 }
 
-// The byte of eight bits, bit 7 first.
+// The byte of eight bits, bit 7 first. They are eight parameters, as an array would have the same eight at each call and in the contract.
 pub(crate) fn byte_of(
     b7: bool,
     b6: bool,

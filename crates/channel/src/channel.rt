@@ -300,10 +300,7 @@ impl Channel {
             Register::Auxiliary => return Err(Refusal::NothingToRead),
             Register::Data => return Ok(self.read_rdr()),
         };
-        Ok(Reading {
-            byte,
-            note: None,
-        })
+        Ok(Reading { byte, note: None })
     }
 
     // A write: IER, CR or FR, CDR or ACR, TDR; only the last has a note.
@@ -325,11 +322,7 @@ impl Channel {
         ensures { (result, self.new) ≡ cycled rxd marks.rxc marks.txc self.old }
     {
         let ticks = self.clock(marks);
-        let report = if ticks.receiver {
-            self.hear(rxd)
-        } else {
-            None
-        };
+        let report = if ticks.receiver { self.hear(rxd) } else { None };
         if ticks.transmitter {
             self.send();
         }

@@ -28,7 +28,7 @@ fn divisor(code: u8) -> Option<u16>
     DIVISORS.get(usize::from(code)).copied()
 }
 
-// FR bits 6-5: the number of data bits, less 5.
+// FR bits 6-5: the number of data bits, less 5. It is no `From<u8>`, nor is the parity: each is two bits of a register, and no byte.
 fn data_bits(fr: u8) -> DataBits
     ensures is { result ≡ data_at (fr / 32 % 4) }
     ensures counts { data_bits result ≡ 5 + fr / 32 % 4 }

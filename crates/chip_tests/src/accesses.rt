@@ -2,7 +2,7 @@
 use crate::bench::*;
 use crate::script::Step::*;
 use crate::script::{play, play_at};
-use dacia::access::{ReadAccess, WriteAccess};
+use dacia::access::{Access, ReadAccess, WriteAccess};
 use dacia::chip::{Chip, Inputs, PoweredChip};
 use std::process::Abort;
 use std::test::*;
@@ -14,26 +14,29 @@ use terms::refusal::Refusal;
 // The selects that can be read.
 const READABLE: [u8; 6] = [0, 1, 3, 4, 5, 7];
 
-// Why no read is opened at a select; one that is opened is ended.
-fn refused_read(chip: &mut Chip, select: u8) -> Option<Refusal> {
-    match ReadAccess::open(select) {
+// Why no access is opened; one that is opened is ended.
+fn refused<K, F: FnOnce(Access<K>)>(opened: Result<Access<K>, Refusal>, end: F) -> Option<Refusal>
+    requires { F.IsAlwaysCallable end }
+{
+    match opened {
         Ok(access) => {
-            let _ = chip.end_read(access);
+            end(access);
             None
         }
         Err(refusal) => Some(refusal),
     }
 }
 
-// Why no write is opened at a select; one that is opened is ended.
+fn refused_read(chip: &mut Chip, select: u8) -> Option<Refusal> {
+    refused(ReadAccess::open(select), |access| {
+        let _ = chip.end_read(access);
+    })
+}
+
 fn refused_write(chip: &mut Chip, select: u8) -> Option<Refusal> {
-    match WriteAccess::open(select) {
-        Ok(access) => {
-            chip.end_write(access, 0xff);
-            None
-        }
-        Err(refusal) => Some(refusal),
-    }
+    refused(WriteAccess::open(select), |access| {
+        chip.end_write(access, 0xff);
+    })
 }
 
 // One cycle with RxD1 low.

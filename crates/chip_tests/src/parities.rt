@@ -86,24 +86,16 @@ fn the_parity_is_that_of_the_cut_word(rt: HostRuntime) -> Result<(), Fail> {
     Ok(())
 }
 
-// Hears one word with the given parity bit; ISR has PAR as told.
-fn hears_word_with(
-    rt: &impl Abort,
-    bench: &mut Bench,
-    word: u8,
-    bits: u8,
-    bit: bool,
-    par: bool,
-) -> Result<(), Fail> {
-    let frame = Frame {
-        word,
-        bits,
-        parity: Some(bit),
-        stops: 1,
-    };
-    assert_eq!(rt; bench.hears_frame(frame), kept(word), "at {}", bench.at);
+// Hears a frame, whose word is kept; ISR has PAR as told.
+fn hears(rt: &impl Abort, bench: &mut Bench, frame: Frame, par: bool) -> Result<(), Fail> {
+    assert_eq!(rt;
+        bench.hears_frame(frame),
+        kept(frame.word),
+        "at {}",
+        bench.at
+    );
     bench.isr_is(rt, if par { 0xc5 } else { 0xc1 })?;
-    bench.rdr_is(rt, word, ReadNote::Fresh)
+    bench.rdr_is(rt, frame.word, ReadNote::Fresh)
 }
 
 // Hears each word with the right and with the wrong parity bit. PAR tells a wrong one, or is the bit itself.
@@ -118,7 +110,13 @@ fn hears_each_word(
         let right = right_bit(parity, word);
         for bit in [right, !right] {
             let par = if shows_bit { bit } else { bit != right };
-            hears_word_with(rt, bench, word, length.bits, bit, par)?;
+            let frame = Frame {
+                word,
+                bits: length.bits,
+                parity: Some(bit),
+                stops: 1,
+            };
+            hears(rt, bench, frame, par)?;
         }
     }
     Ok(())

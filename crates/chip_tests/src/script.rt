@@ -1,4 +1,5 @@
 // Tests as scripts: steps that are done to a channel, and between them what it must answer.
+// The steps are an enum, so that a script is a list to read; closures in their place would have to name the bench in each.
 use crate::bench::*;
 use std::process::Abort;
 use std::test::*;

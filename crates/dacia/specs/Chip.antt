@@ -20,8 +20,8 @@ channel_of One c = c.one
 channel_of Two c = c.two
 
 abbrev pub with_channel : ChannelId → Channel → Chip → Chip
-with_channel One x c = record { one = x; two = c.two }
-with_channel Two x c = record { one = c.one; two = x }
+with_channel One x c = record c { one = x }
+with_channel Two x c = record c { two = x }
 
 abbrev pub powered_chip : PoweredChip
 powered_chip = record { one = powered_on; two = powered_on }

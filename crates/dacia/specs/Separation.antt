@@ -88,8 +88,8 @@ concerns ch (cycle i) = true
 
 -- the other channel's RxD struck out: any two levels there are alike
 abbrev pub own_inputs : ChannelId → Inputs → Inputs
-own_inputs One i = record { rxd1 = i.rxd1; rxd2 = true; marks = i.marks }
-own_inputs Two i = record { rxd1 = true; rxd2 = i.rxd2; marks = i.marks }
+own_inputs One i = record i { rxd2 = true }
+own_inputs Two i = record i { rxd1 = true }
 
 unfoldable pub own : ChannelId → Call → Call
 own ch reset = reset

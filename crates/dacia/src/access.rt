@@ -32,7 +32,7 @@ pub type ReadAccess = Access<ForReading>;
 
 pub type WriteAccess = Access<ForWriting>;
 
-// The register by the last two bits of its select.
+// The register by the last two bits of its select. It is no `TryFrom`, as each of the four values that they have is a register.
 fn register_at(number: u8) -> Register
     ensures { result ≡ register_at number }
 {

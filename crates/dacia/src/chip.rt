@@ -16,7 +16,7 @@ use terms::modem_line::ModemLine;
 use terms::note::{Reading, WriteNote};
 use terms::refusal::Refusal;
 
-// A chip at power on: it allows only a reset.
+// A chip at power on: it allows only a reset. It is a type of its own, so that a register read before the reset does not compile.
 #[derive(Drop)]
 pub struct PoweredChip {
     one: Channel,

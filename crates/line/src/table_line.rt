@@ -7,6 +7,7 @@ use crate::line::Line;
 const SIZE: usize = 64;
 
 // The first level stands at `head`, modulo the size of the table, and the others follow it round.
+// It is an array with its place, since a line is never refused, and so may ask for no memory.
 #[derive(Drop)]
 pub struct TableLine {
     table: [bool; 64],

@@ -1,7 +1,7 @@
 -- One direction of a board keeps its invariant, and what the invariant says of the words.
 use Rattle.std.proofs.Common.{◌≡◌, ℕ, ◌+◌, ◌*◌, ◌<◌, ◌≤◌, Bool, true, false, cond, ltb, List, [], ◌∷◌, ◌++◌, map, length, replicate, Some, None, Option, sym, refl, ap, ◌∙◌, subst, inl, inr, append_assoc, append-nil, mul-le-mul_right, mul_assoc, one-mul, arith, length-append}
 use lib.ListN.{length-replicate}
-use Rattle.std.proofs.lemmas.List.{map-append}
+use Rattle.std.proofs.lemmas.List.{map-append, nil_from_length}
 use Rattle.std.proofs.lemmas.Bool.{ltb-true, true≢false}
 use Rattle.terms.specs.declared.report.Report.{Report}
 use Rattle.serial.specs.declared.format.Format.{Format}
@@ -68,10 +68,6 @@ last_sent x [] r more (v ∷ vs) e = let first : r ≡ sent_as x v = cc in (v, f
 last_sent x (q ∷ log) r more [] e = absurd (let z : ◌≡◌ {A = ℕ} 0 1 = cc in omega arith)
 last_sent x (q ∷ log) r more (v ∷ vs) e = let others : (log ++ (r ∷ [])) ++ more ≡ map (sent_as x) vs = cc in last_sent x log r more vs others
 
-words_push : (log : List Received) (r : Received) → words (log ++ (r ∷ [])) ≡ words log ++ (r.word ∷ [])
-words_push [] r = refl
-words_push (q ∷ log) r = ap (λ z. q.word ∷ z) (words_push log r)
-
 -- the end of a clean frame: it is kept, or lost where RDRF is set
 pub record Ended (log : List Received) (frame : Option Received) (r : Receiving) (p : Past) (e : Option Report × Receiving) : Type 0 where
   pub receiver : e.1.receiver ≡ r.receiver
@@ -85,13 +81,13 @@ ended_clean : (x : Format) (v : ℕ) (log : List Received) (r : Receiving) (p : 
 ended_clean x v log r p c a h true rdrf e g = absurd (true≢false (sym e ∙ c.awake))
 ended_clean x v log r p c a h false true e g = record {
   receiver = refl;
-  arrivals = ap (λ z. z ++ (cut x v ∷ [])) a ∙ sym (words_push log (sent_as x v));
+  arrivals = ap (λ z. z ++ (cut x v ∷ [])) a ∙ sym (map-append (λ z. z.word) log (sent_as x v ∷ []));
   clean = record { par = c.par; fe = c.fe; brk = c.brk; awake = c.awake };
   reads = h ∙ sym (append-nil p.kept);
 }
 ended_clean x v log r p c a h false false e g = record {
   receiver = refl;
-  arrivals = ap (λ z. z ++ (cut x v ∷ [])) a ∙ sym (words_push log (sent_as x v));
+  arrivals = ap (λ z. z ++ (cut x v ∷ [])) a ∙ sym (map-append (λ z. z.word) log (sent_as x v ∷ []));
   clean = record { par = refl; fe = refl; brk = c.brk; awake = c.awake };
   reads = ap (λ z. z ++ (cut x v ∷ [])) (sym (append-nil p.fresh) ∙ ap (λ b. p.fresh ++ only b r.rdr) (sym g) ∙ h);
 }
@@ -186,7 +182,7 @@ fresh_timing x d D φ (Breaking y c) i h b = absurd b
 module _ (x : Format) (d D : ℕ) where
   -- a write to the near TDR
   pub write_inv : (k : Link) (p : Past) (v : ℕ) → LinkInv x d D k p →
-      LinkInv x d D (record { phase = k.phase; cts = k.cts; sender = filled v k.sender; line = k.line; receiving = k.receiving }) (past_write (is_full k.sender.tdr) v p)
+      LinkInv x d D (record k { sender = filled v k.sender }) (past_write (is_full k.sender.tdr) v p)
   write_inv k p v i =
       let s : Sender = k.sender in
       let g = i.going in
@@ -213,7 +209,7 @@ module _ (x : Format) (d D : ℕ) where
 
   -- a read of the far RDR
   pub read_inv : (k : Link) (p : Past) → LinkInv x d D k p →
-      LinkInv x d D (record { phase = k.phase; cts = k.cts; sender = k.sender; line = k.line; receiving = emptied k.receiving })
+      LinkInv x d D (record k { receiving = emptied k.receiving })
       (past_read k.receiving.rdrf k.receiving.rdr p)
   read_inv k p i = record {
     log = i.log;
@@ -225,7 +221,7 @@ module _ (x : Format) (d D : ℕ) where
 
   -- a level of the near CTS
   pub cts_inv : (k : Link) (p : Past) (l : Bool) → LinkInv x d D k p →
-      LinkInv x d D (record { phase = k.phase; cts = l; sender = k.sender; line = k.line; receiving = k.receiving }) p
+      LinkInv x d D (record k { cts = l }) p
   cts_inv k p l i = record { log = i.log; going = i.going; arrivals = i.arrivals; clean = i.clean; reads = i.reads }
 
 -- at the start: nothing is under way, and the line is quiet
@@ -259,10 +255,6 @@ start_inv x D k h phase sender quiet hunts empty clean =
 words_sent : (x : Format) (vs : List ℕ) → words (map (sent_as x) vs) ≡ map (cut x) vs
 words_sent x [] = refl
 words_sent x (v ∷ vs) = ap (λ z. cut x v ∷ z) (words_sent x vs)
-
-none : (ls : List Bool) → length ls ≡ 0 → ls ≡ []
-none [] e = refl
-none (l ∷ ls) e = absurd (omega arith)
 
 two_frames : (z D : ℕ) → 32 * z * D ≡ 2 * (16 * z * D)
 two_frames z D = let a = mul_assoc 32 z D in let b = mul_assoc 16 z D in omega arith
@@ -310,7 +302,7 @@ arrives x d D k p i =
           let l3 = length-replicate o.idle true in
           let l4 : length (k.line ++ pend) ≡ length (f.body ++ replicate o.idle true) = ap length f.split in
           let l5 = g.line_size in
-          let empty : f.body ≡ [] = none f.body (omega arith) in
+          let empty : f.body ≡ [] = nil_from_length f.body (omega arith) in
           let same : i.log ≡ map (sent_as x) took = ap (λ z. (run x D z r).log) (sym empty) ∙ f.log in
           let caught : took ≡ p.unreplaced false = ap (λ z. p.unreplaced z) q.0 in
           i.arrivals ∙ ap words same ∙ words_sent x took ∙ ap (map (cut x)) caught;

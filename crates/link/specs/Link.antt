@@ -27,13 +27,13 @@ taken k = leaves k.line (given k)
 abbrev pub idled : Link → Option Report × Link
 idled k = (
   None,
-  record { phase = k.phase + 1; cts = k.cts; sender = k.sender; line = held k.line (given k); receiving = k.receiving },
+  record k { phase = k.phase + 1; line = held k.line (given k) },
 )
 
 abbrev pub ticked_on : Format → Link → Option Report × Link
 ticked_on x k =
     let h = heard_by x 0 false (taken k) k.receiving in
-    (h.0, record { phase = 0; cts = k.cts; sender = sent x false k.cts k.sender; line = held k.line (given k); receiving = h.1 })
+    (h.0, record k { phase = 0; sender = sent x false k.cts k.sender; line = held k.line (given k); receiving = h.1 })
 
 abbrev pub link_cycle : Format → ℕ → Link → Option Report × Link
 link_cycle x D k = cond (nat_lt (k.phase + 1) D) (idled k) (ticked_on x k)

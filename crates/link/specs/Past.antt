@@ -55,33 +55,17 @@ longest_after false row longest = max longest (suc row)
 
 -- a cycle with the near CTS at a level and a report of the far channel, if it has one
 abbrev pub past_cycle : Bool → Option Report → Past → Past
-past_cycle cts r p = record {
+past_cycle cts r p = record p {
   arrived = p.arrived ++ words_of arrived_of r;
   kept = p.kept ++ words_of kept_of r;
-  fresh = p.fresh;
-  unreplaced = p.unreplaced;
   row = row_after cts p.row;
   longest = longest_after cts p.row p.longest;
 }
 
 -- a write to the near TDR, which replaced a word or not
 abbrev pub past_write : Bool → ℕ → Past → Past
-past_write replaced w p = record {
-  arrived = p.arrived;
-  kept = p.kept;
-  fresh = p.fresh;
-  unreplaced = λ b. p.unreplaced replaced ++ unless b w;
-  row = 0;
-  longest = 0;
-}
+past_write replaced w p = record p { unreplaced = λ b. p.unreplaced replaced ++ unless b w; row = 0; longest = 0 }
 
 -- a read of the far RDR, fresh or not
 abbrev pub past_read : Bool → ℕ → Past → Past
-past_read is_fresh w p = record {
-  arrived = p.arrived;
-  kept = p.kept;
-  fresh = p.fresh ++ only is_fresh w;
-  unreplaced = p.unreplaced;
-  row = p.row;
-  longest = p.longest;
-}
+past_read is_fresh w p = record p { fresh = p.fresh ++ only is_fresh w }

@@ -21,14 +21,14 @@ no_counts = record { written = 0; replaced = 0; kept = 0; lost = 0; read = 0 }
 -- only a write to TDR has a note
 abbrev pub write_counted : Option WriteNote → Counts → Counts
 write_counted None c = c
-write_counted (Some Stored) c = record { written = more c.written; replaced = c.replaced; kept = c.kept; lost = c.lost; read = c.read }
-write_counted (Some Replaced) c = record { written = more c.written; replaced = more c.replaced; kept = c.kept; lost = c.lost; read = c.read }
+write_counted (Some Stored) c = record c { written = more c.written }
+write_counted (Some Replaced) c = record c { written = more c.written; replaced = more c.replaced }
 
 abbrev pub report_counted : ReportKind → Counts → Counts
 report_counted Break c = c
 report_counted Passed c = c
-report_counted Lost c = record { written = c.written; replaced = c.replaced; kept = c.kept; lost = more c.lost; read = c.read }
-report_counted Kept c = record { written = c.written; replaced = c.replaced; kept = more c.kept; lost = c.lost; read = c.read }
+report_counted Lost c = record c { lost = more c.lost }
+report_counted Kept c = record c { kept = more c.kept }
 
 -- a report of the channel ch counts for the words to that channel
 abbrev pub report_to : ChannelId → ChannelId → ReportKind → Counts → Counts
@@ -37,7 +37,7 @@ report_to to ch k c = cond (same to ch) (report_counted k c) c
 -- only a read of a full RDR is fresh
 abbrev pub read_counted : Option ReadNote → Counts → Counts
 read_counted None c = c
-read_counted (Some Fresh) c = record { written = c.written; replaced = c.replaced; kept = c.kept; lost = c.lost; read = more c.read }
+read_counted (Some Fresh) c = record c { read = more c.read }
 read_counted (Some Old) c = c
 
 -- the text of the words read, where there was memory for one more

@@ -33,7 +33,7 @@ const BLANK: Record = Record {
     word: 0,
 };
 
-// What is done to the board, and why.
+// What is done to the board, and why. The steps are an enum, since the story is a table of constants, which can hold no closures.
 #[derive(Clone, Copy)]
 pub(crate) enum Step {
     SetUp(u8, u8),
@@ -68,7 +68,7 @@ pub(crate) struct Bench {
 struct Log {
     cycle: u32,
     irqs: Irqs,
-    // the words from channel 1 to channel 2, and those from 2 to 1
+    // the words from channel 1 to channel 2, and those from 2 to 1; which of the two an access, a report or a read concerns differs
     there: Tally,
     back: Tally,
 }
@@ -107,8 +107,15 @@ impl Bench {
             Step::ReadAt(select) => self.read_at(rt, select)?,
             Step::Modem(channel, line, level) => self.modem(rt, channel, line, level)?,
             Step::Run(cycles, why) => self.run(rt, cycles, why)?,
-            Step::RunToReport(channel) => self.run_to_report(rt, channel)?,
-            Step::RunToIrq(channel) => self.run_to_irq(rt, channel)?,
+            Step::RunToReport(channel) => self.run_until(
+                rt,
+                channel,
+                |answer| answer.report.is_some(),
+                "no frame ended in time",
+            )?,
+            Step::RunToIrq(channel) => {
+                self.run_until(rt, channel, |answer| !answer.irq, "no request came in time")?
+            }
             Step::Sweep(cycles, room) => self.sweep(rt, cycles, room)?,
         }
         self.tell_irqs(rt)?;
@@ -235,26 +242,23 @@ impl Bench {
         println!(rt; "{:>5}  {cycles} cycles are over: {why}", self.log.cycle)
     }
 
-    // Cycles until a channel reports something.
-    fn run_to_report(&mut self, rt: &HostRuntime, channel: ChannelId) -> anyhow::Result<()> {
+    // Cycles until a channel answers what is waited for, or what was missing.
+    fn run_until<F: Fn(ChannelAnswer) -> bool>(
+        &mut self,
+        rt: &HostRuntime,
+        channel: ChannelId,
+        due: F,
+        missing: &str,
+    ) -> anyhow::Result<()>
+        requires { F.IsAlwaysCallable due }
+    {
         for _ in 0..PATIENCE {
             let answer = self.cycle(rt)?;
-            if of(channel, answer).report.is_some() {
+            if due(of(channel, answer)) {
                 return Ok(());
             }
         }
-        Err(anyhow!("no frame ended in time"))
-    }
-
-    // Cycles until a channel has a request.
-    fn run_to_irq(&mut self, rt: &HostRuntime, channel: ChannelId) -> anyhow::Result<()> {
-        for _ in 0..PATIENCE {
-            let answer = self.cycle(rt)?;
-            if !of(channel, answer).irq {
-                return Ok(());
-            }
-        }
-        Err(anyhow!("no request came in time"))
+        Err(anyhow!("{missing}"))
     }
 
     // A sweep: what it has written, and how far the board is then.

@@ -1,4 +1,4 @@
-// What the models answer and show, as it is compared and printed.
+// What the models answer and show, as it is compared and printed. A reset and a modem level answer nothing.
 
 use crate::channels::Channels;
 use board::record::Record;
@@ -11,8 +11,6 @@ use terms::report::Report;
 
 #[derive(Clone, Copy, PartialEq, Eq, Debug)]
 pub(crate) enum Answer {
-    // a reset and a modem level answer nothing
-    Nothing,
     Read(Result<Reading, Refusal>),
     Write(Result<Option<WriteNote>, Refusal>),
     SetUp(Result<(), Refusal>),

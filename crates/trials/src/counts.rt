@@ -155,21 +155,29 @@ impl Counts {
     pub(crate) fn call(
         &mut self,
         call: Call,
-        answer: Answer,
+        answer: Option<Answer>,
         was: Channels<State>,
         is: Channels<State>,
     ) {
         let either = was.one.union(was.two);
-        if let Some(refusal) = answer.refusal() {
+        if let Some(refusal) = answer.and_then(Answer::refusal) {
             self.add(Event::Refusal(refusal));
         }
         match (call, answer) {
-            (Call::Read(_), Answer::Read(Ok(Reading { note, byte: _ }))) => {
-                if let Some(note) = note {
-                    self.add(Event::Read(note));
-                }
-            }
-            (Call::Write(select, _), Answer::Write(Ok(note))) => {
+            (
+                Call::Read(_),
+                Some(
+                    Answer::Read(
+                        Ok(
+                            Reading {
+                                note: Some(note),
+                                byte: _,
+                            },
+                        ),
+                    ),
+                ),
+            ) => self.add(Event::Read(note)),
+            (Call::Write(select, _), Some(Answer::Write(Ok(note)))) => {
                 if let Some(note) = note {
                     self.add(Event::Written(note));
                 }
@@ -185,11 +193,11 @@ impl Counts {
                 let begun = is.at(channel).difference(*was.at(channel));
                 self.see(Event::CtsFall, begun.contains(State::TDRE));
             }
-            (Call::SetUp(_, _), Answer::SetUp(Ok(()))) => {
+            (Call::SetUp(_, _), Some(Answer::SetUp(Ok(())))) => {
                 self.add(Event::SetUp);
                 self.see(Event::SetUpWhileSending, either.contains(State::SENDS));
             }
-            (Call::Sweep { .. }, Answer::Sweep(Ok(_))) => self.add(Event::Sweep),
+            (Call::Sweep { .. }, Some(Answer::Sweep(Ok(_)))) => self.add(Event::Sweep),
             _ => {}
         }
         // a set-up puts in another chip, which has not changed

@@ -78,35 +78,39 @@ impl<'a, F: First, S: Second> Rig<'a, F, S> {
         let first = &mut self.first;
         let second = &mut self.second;
         let answer = match call {
-            Call::Read(select) | Call::Held(Held { select, .. }) => {
-                place.same(Answer::Read, first.read(select), second.read(select))?
-            }
-            Call::Write(select, byte) => place.same(
+            Call::Read(select) | Call::Held(Held { select, .. }) => Some(place.same(
+                Answer::Read,
+                first.read(select),
+                second.read(select),
+            )?),
+            Call::Write(select, byte) => Some(place.same(
                 Answer::Write,
                 first.write(select, byte),
                 second.write(select, byte),
-            )?,
-            Call::SetUp(cr, fr) => {
-                place.same(Answer::SetUp, first.set_up(cr, fr), second.set_up(cr, fr))?
-            }
-            Call::Sweep { cycles, room } => self.sweep(cycles, room)?,
+            )?),
+            Call::SetUp(cr, fr) => Some(place.same(
+                Answer::SetUp,
+                first.set_up(cr, fr),
+                second.set_up(cr, fr),
+            )?),
+            Call::Sweep { cycles, room } => Some(self.sweep(cycles, room)?),
             Call::Run(run) => return self.run(run),
             Call::Reset => {
                 first.reset();
                 second.reset();
-                Answer::Nothing
+                None
             }
             Call::Modem(channel, line, level) => {
                 first.set_modem(channel, line, level);
                 second.set_modem(channel, line, level);
-                Answer::Nothing
+                None
             }
         };
         self.end(call, answer)
     }
 
     // The end of a call: compares the levels, and counts.
-    fn end(&mut self, call: Call, answer: Answer) -> Result<(), Stop> {
+    fn end(&mut self, call: Call, answer: Option<Answer>) -> Result<(), Stop> {
         self.same_levels()?;
         let is = states(self.second.chip());
         let was = mem::replace(&mut self.states, is);
@@ -138,7 +142,7 @@ impl<'a, F: First, S: Second> Rig<'a, F, S> {
         self.place
             .same(Answer::Read, read, self.second.read(select))?;
         let answer = self.place.same(Answer::Write, Ok(written), self.second.write(select, byte))?;
-        self.end(Call::Held(held), answer)
+        self.end(Call::Held(held), Some(answer))
     }
 
     // Plays the calls during which an access is open.
