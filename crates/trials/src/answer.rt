@@ -72,6 +72,7 @@ impl fmt::Display for Answer {
             Answer::Record(record) => write_record(f, *record),
             Answer::Cycle(_, answer) => write_cycle(f, *answer),
             Answer::Levels(levels) => write!(f, "{levels}"),
+            // a set-up that is accepted
             _ => f.write_str("done"),
         }
     }

@@ -8,7 +8,6 @@ use crate::state::State;
 use dacia::access::Place;
 use std::alloc::{AllocError, Global};
 use terms::channel_id::ChannelId;
-use terms::note::Reading;
 use terms::register::Register;
 use terms::report::{Report, ReportKind};
 
@@ -164,19 +163,11 @@ impl Counts {
             self.add(Event::Refusal(refusal));
         }
         match (call, answer) {
-            (
-                Call::Read(_),
-                Some(
-                    Answer::Read(
-                        Ok(
-                            Reading {
-                                note: Some(note),
-                                byte: _,
-                            },
-                        ),
-                    ),
-                ),
-            ) => self.add(Event::Read(note)),
+            (Call::Read(_), Some(Answer::Read(Ok(reading)))) => {
+                if let Some(note) = reading.note {
+                    self.add(Event::Read(note));
+                }
+            }
             (Call::Write(select, _), Some(Answer::Write(Ok(note)))) => {
                 if let Some(note) = note {
                     self.add(Event::Written(note));
