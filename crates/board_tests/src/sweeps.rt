@@ -19,6 +19,15 @@ const UNTOUCHED: Record = Record {
     word: 0x77,
 };
 
+fn kept(cycle: u16, channel: ChannelId, word: u8) -> Record {
+    Record {
+        cycle,
+        channel,
+        kind: ReportKind::Kept,
+        word,
+    }
+}
+
 fn untouched(heap: Global, count: usize) -> Result<Vec<Record>, AllocError> {
     vec![in heap; UNTOUCHED; count]
 }
@@ -112,20 +121,8 @@ fn a_sweep_of_2048_writes_what_the_channels_report(rt: HostRuntime) -> Result<()
     let mut board = sending()?;
     assert_eq!(rt; board.sweep(2048, records.as_mut_slice()), Ok(2));
     assert!(rt; records.len() == 4096);
-    let over_b = Record {
-        cycle: 924,
-        channel: ChannelId::One,
-        kind: ReportKind::Kept,
-        word: 0x42,
-    };
-    let over_a = Record {
-        cycle: 984,
-        channel: ChannelId::Two,
-        kind: ReportKind::Kept,
-        word: 0x41,
-    };
-    assert_eq!(rt; records[0], over_b);
-    assert_eq!(rt; records[1], over_a);
+    assert_eq!(rt; records[0], kept(924, ChannelId::One, 0x42));
+    assert_eq!(rt; records[1], kept(984, ChannelId::Two, 0x41));
     untouched_from(&rt, records.as_slice(), 2);
     Ok(())
 }
@@ -140,12 +137,8 @@ fn of_two_reports_in_a_cycle_that_of_channel_1_stands_first(rt: HostRuntime) -> 
     board.write(7, 0x42)?;
     assert_eq!(rt; board.sweep(2000, records.as_mut_slice()), Ok(2));
     assert!(rt; records.len() == 4096);
-    assert_eq!(rt; records[0].cycle, 924);
-    assert_eq!(rt; records[0].channel, ChannelId::One);
-    assert_eq!(rt; records[0].word, 0x42);
-    assert_eq!(rt; records[1].cycle, 924);
-    assert_eq!(rt; records[1].channel, ChannelId::Two);
-    assert_eq!(rt; records[1].word, 0x41);
+    assert_eq!(rt; records[0], kept(924, ChannelId::One, 0x42));
+    assert_eq!(rt; records[1], kept(924, ChannelId::Two, 0x41));
     Ok(())
 }
 
@@ -157,7 +150,7 @@ fn each_sweep_numbers_its_cycles_from_1(rt: HostRuntime) -> Result<(), Fail> {
     assert_eq!(rt; board.sweep(900, records.as_mut_slice()), Ok(0));
     assert_eq!(rt; board.sweep(900, records.as_mut_slice()), Ok(2));
     assert!(rt; records.len() == 4096);
-    assert_eq!(rt; records[0].cycle, 24);
-    assert_eq!(rt; records[1].cycle, 84);
+    assert_eq!(rt; records[0], kept(24, ChannelId::One, 0x42));
+    assert_eq!(rt; records[1], kept(84, ChannelId::Two, 0x41));
     Ok(())
 }

@@ -10,6 +10,7 @@ use terms::note::{ReadNote, Reading, WriteNote};
 use terms::report::{Report, ReportKind};
 
 // The data bits of a word: their part of FR, those bits of a byte, and how many they are.
+// The tests of the chip have this table too: the two crates of tests share no code, so that each reads alone.
 #[derive(Clone, Copy)]
 struct Size {
     fr: u8,

@@ -26,14 +26,18 @@ const DIVISORS: [(u8, u16); 15] = [
     (14, 6),
 ];
 
-// With a word waiting, TxD falls in the cycle of that number and in none before.
-fn falls_in_cycle(
+// With a word waiting, TxD falls in the cycle of that number and in none before, though something is done before each cycle.
+fn falls_though<F: Fn(&mut Bench) -> Result<(), Refusal>>(
     rt: &impl Abort,
     bench: &mut Bench,
     number: u16,
     marks: Marks,
-) -> Result<(), Fail> {
+    before: F,
+) -> Result<(), Fail>
+    requires { F.IsAlwaysCallable before }
+{
     for cycle in 1..=number {
+        before(bench)?;
         assert_eq!(rt;
             bench.cycle(HIGH, marks).txd,
             cycle < number,
@@ -45,32 +49,21 @@ fn falls_in_cycle(
     Ok(())
 }
 
+fn falls_in_cycle(
+    rt: &impl Abort,
+    bench: &mut Bench,
+    number: u16,
+    marks: Marks,
+) -> Result<(), Fail> {
+    falls_though(rt, bench, number, marks, |_| Ok(()))
+}
+
 // Writes CR with each of its bits above the rate code set and clear, and FR.
 fn write_around(bench: &mut Bench, code: u8) -> Result<(), Refusal> {
     for other_bits in [0x10, 0x20, 0x40, 0x70, 0x00] {
         bench.write(CR, code | other_bits)?;
     }
     bench.write(FR, 0x80 | code)?;
-    Ok(())
-}
-
-// The same as `falls_in_cycle`, with writes before each cycle that keep the rate code.
-fn falls_though_written(
-    rt: &impl Abort,
-    bench: &mut Bench,
-    code: u8,
-    number: u16,
-) -> Result<(), Fail> {
-    for cycle in 1..=number {
-        write_around(bench, code)?;
-        assert_eq!(rt;
-            bench.cycle(HIGH, UNMARKED).txd,
-            cycle < number,
-            "{} at {}",
-            cycle,
-            bench.at
-        );
-    }
     Ok(())
 }
 
@@ -181,7 +174,9 @@ fn the_same_rate_code_leaves_the_count(rt: HostRuntime) -> Result<(), Fail> {
             bench.write(CR, code)?;
             bench.write(TDR, 0x01)?;
             bench.at = usize::from(code);
-            falls_though_written(&rt, &mut bench, code, divisor)?;
+            falls_though(&rt, &mut bench, divisor, UNMARKED, |bench| {
+                write_around(bench, code)
+            })?;
         }
     }
     Ok(())
