@@ -34,7 +34,8 @@ pub(crate) trait Played {
         Ok(())
     }
 
-    // A sweep into records, and how many it has written.
+    // A sweep into records, and how many it has written. A refusal is an answer that is compared, and want of memory ends the
+    // trial: so the one stands in the other.
     fn sweep(
         &mut self,
         _heap: Global,

@@ -56,7 +56,7 @@ impl<'a, F: First, S: Second> Rig<'a, F, S> {
         }
     }
 
-    // Plays the calls in order.
+    // Plays the calls in order. It is a `while`, as a held access takes the calls behind it along.
     pub(crate) fn play_all(&mut self, calls: &[Call]) -> Result<(), Stop> {
         let mut rest = calls;
         while let Some((call, later)) = rest.split_first() {
@@ -72,6 +72,7 @@ impl<'a, F: First, S: Second> Rig<'a, F, S> {
     }
 
     // Plays one call. An access is ended at once, so that of a held one only the read is made.
+    // A call is a case and no closure, since a history is also printed, counted and shortened.
     fn play(&mut self, call: Call) -> Result<(), Stop> {
         self.place.cycle = 0;
         let place = self.place;

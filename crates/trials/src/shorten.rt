@@ -55,7 +55,7 @@ impl Found {
         true
     }
 
-    // Leaves out ever smaller parts, as long as the history still differs.
+    // Leaves out ever smaller parts, as long as the history still differs. The place is moved by hand, as the calls grow fewer.
     pub(crate) fn shorten(&mut self, heap: Global) -> Result<(), AllocError> {
         let mut part = self.history.calls.len();
         let mut at = 0usize;
