@@ -15,7 +15,11 @@ fn a_reset_chip_reads_c1_and_43(rt: HostRuntime) -> Result<(), Fail> {
 
 #[test]
 fn sends_41_at_fr_e0(rt: HostRuntime) -> Result<(), Fail> {
-    play_at(&rt, 0xe0, &[Write(TDR, 0x41), SendsBits(10, 0b0100000101)])
+    play_at(
+        &rt,
+        0xe0,
+        &[Write(TDR, 0x41), SendsBits(Bits(10, 0b0100000101))],
+    )
 }
 
 #[test]
@@ -23,12 +27,12 @@ fn sends_41_in_seven_bits_with_parity(rt: HostRuntime) -> Result<(), Fail> {
     play_at(
         &rt,
         0xcc,
-        &[Write(TDR, 0x41), SendsBits(10, 0b0_1000001_0_1)],
+        &[Write(TDR, 0x41), SendsBits(Bits(10, 0b0_1000001_0_1))],
     )?;
     play_at(
         &rt,
         0xc4,
-        &[Write(TDR, 0x41), SendsBits(10, 0b0_1000001_1_1)],
+        &[Write(TDR, 0x41), SendsBits(Bits(10, 0b0_1000001_1_1))],
     )
 }
 

@@ -61,20 +61,20 @@ impl Cause {
             Cause::DcdChange => bench.modem(ModemLine::Dcd, HIGH),
             Cause::DsrChange => bench.modem(ModemLine::Dsr, HIGH),
             Cause::WrongParity => {
-                bench.hears_bits(11, 0b0_10000010_1_1);
+                bench.hears_bits(Bits(11, 0b0_10000010_1_1));
             }
             Cause::LowStopBit => {
-                bench.hears_bits(11, 0b0_10000010_0_0);
+                bench.hears_bits(Bits(11, 0b0_10000010_0_0));
             }
             Cause::Overrun => {
-                bench.hears_bits(11, 0b0_10000010_0_1);
-                bench.hears_bits(11, 0b0_10000010_0_1);
+                bench.hears_bits(Bits(11, 0b0_10000010_0_1));
+                bench.hears_bits(Bits(11, 0b0_10000010_0_1));
             }
             Cause::LineBreak => {
                 bench.hear(LOW, 176);
             }
             Cause::Word => {
-                bench.hears_bits(11, 0b0_10000010_0_1);
+                bench.hears_bits(Bits(11, 0b0_10000010_0_1));
             }
         }
         Ok(())
@@ -234,7 +234,7 @@ fn tdre_requests_when_a_word_is_taken(rt: HostRuntime) -> Result<(), Fail> {
             // a full TDR drops it, and the next word taken raises it
             Write(TDR, 0x42),
             Irq(HIGH),
-            SendsBits(9, 0b10000010_1),
+            SendsBits(Bits(9, 0b10000010_1)),
             Irq(HIGH),
             Sends(LOW, 1),
             Irq(LOW),

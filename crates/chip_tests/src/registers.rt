@@ -117,13 +117,13 @@ fn bit_7_chooses_fr(rt: HostRuntime) -> Result<(), Fail> {
             Read(CSR, 0x40),
             // CR stays at rate code 15 and two stop bits
             Write(TDR, 0x41),
-            SendsBits(11, 0b0_1000001_1_11),
+            SendsBits(Bits(11, 0b0_1000001_1_11)),
             // FR stays at seven bits and odd parity
             Write(CR, 0x0f),
             Write(TDR, 0x41),
-            SendsBits(10, 0b0_1000001_1_1),
+            SendsBits(Bits(10, 0b0_1000001_1_1)),
             Write(TDR, 0x41),
-            SendsBits(1, 0b0),
+            SendsBits(Bits(1, 0b0)),
         ],
     )
 }
@@ -184,14 +184,14 @@ fn a_short_word_never_equals_a_long_address(rt: HostRuntime) -> Result<(), Fail>
         0xc0,
         &[
             Write(CDR, 0xc1),
-            HearsBits(9, 0b0_1000001_1),
+            HearsBits(Bits(9, 0b0_1000001_1)),
             Passed(0x41),
-            HearsBits(9, 0b0_1000001_1),
+            HearsBits(Bits(9, 0b0_1000001_1)),
             Passed(0x41),
             Write(CDR, 0x41),
-            HearsBits(9, 0b0_1000001_1),
+            HearsBits(Bits(9, 0b0_1000001_1)),
             Passed(0x41),
-            HearsBits(9, 0b0_1000001_1),
+            HearsBits(Bits(9, 0b0_1000001_1)),
             Kept(0x41),
         ],
     )
