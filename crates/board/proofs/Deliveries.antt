@@ -22,8 +22,8 @@ use Rattle.channel.specs.Channel.{isr_read, rdr_read, tdr_written, modem_changed
 use Rattle.dacia.specs.declared.chip.Chip.{Chip}
 use Rattle.terms.specs.declared.register.Register.TheVariants.{Data}
 use Rattle.dacia.specs.Access.{select_at, channel_at, register_at, place_at, access_at}
-use Rattle.dacia.specs.Chip.{channel_of, with_channel, after_read_of, after_write_of, read_once, after_read_once, write_once, after_write_once}
-use Rattle.dacia.specs.Separation.{same, answer_of}
+use Rattle.dacia.specs.Chip.{channel_of, with_channel, answer_of, after_read_of, after_write_of, read_once, after_read_once, write_once, after_write_once}
+use Rattle.dacia.specs.Separation.{same}
 use Rattle.link.specs.Link.{Link, link_cycle}
 use Rattle.link.specs.Past.{Past, arrived_of, kept_of, past_cycle, past_write, past_read}
 use Rattle.link.proofs.Links.{LinkInv, cycle_inv, write_inv, read_inv, cts_inv}

@@ -9,8 +9,7 @@ use Rattle.channel.specs.declared.channel.ChannelAnswer.{ChannelAnswer}
 use Rattle.channel.specs.Control.{rate_code, divisor, format_of}
 use Rattle.channel.specs.Channel.{txd_of}
 use Rattle.channel.specs.Calls.{cycled}
-use Rattle.dacia.specs.Chip.{channel_of}
-use Rattle.dacia.specs.Separation.{answer_of}
+use Rattle.dacia.specs.Chip.{channel_of, answer_of}
 use Rattle.line.specs.Line.{held}
 use Rattle.link.specs.Link.{Link, given, taken, idled, ticked_on, link_cycle}
 use Rattle.board.specs.Board.{State, inputs, cycle_answer, after_cycle}

@@ -20,8 +20,8 @@ use Rattle.serial.specs.Format.{frame_bits, cut}
 use Rattle.serial.specs.Frame.{bit}
 use Rattle.channel.specs.Control.{rate_code, divisors, format_of}
 use Rattle.dacia.specs.Access.{select_at}
-use Rattle.dacia.specs.Chip.{read_once}
-use Rattle.dacia.specs.Separation.{same, answer_of}
+use Rattle.dacia.specs.Chip.{answer_of, read_once}
+use Rattle.dacia.specs.Separation.{same}
 use Rattle.link.specs.Past.{Past, nothing_yet, arrived_of, kept_of, only, row_after, longest_after, past_cycle, past_write, past_read}
 use Rattle.board.specs.declared.record.Record.{Record}
 use Rattle.board.specs.Board.{State}

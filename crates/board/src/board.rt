@@ -47,13 +47,14 @@ fn sweep_allowed(k: u16, room: usize) -> Result<(), Refusal>
     if k == 0 || k > MOST_CYCLES {
         return Err(Refusal::BadSweepLength);
     }
-    if room < 2 * k as usize {
+    if room < 2 * usize::from(k) {
         return Err(Refusal::TooFewRecords);
     }
     Ok(())
 }
 
-// A chip that is reset and set up: both values written to both channels, both RDRs read. They are two bytes and no struct, as each is written alone.
+// A chip that is reset and set up: both values written to both channels, both RDRs read. The accesses are written out, since loops over
+// the selects 1 and 5 and over 3 and 7 would be as long; and the values are two bytes and no struct, since each is written alone.
 fn set_up_chip(cr: u8, fr: u8) -> Result<Chip, Refusal>
     ensures { result ≡ Ok (set_up_chip cr fr) }
 {
@@ -109,6 +110,7 @@ impl<A: Line, B: Line> Board<A, B> {
         self.try_set_up(cr, fr)
     }
 
+    // Apart from `set_up`, which promises delivery besides: that is proved from what is said here, and not from the code.
     fn try_set_up(&mut self, cr: u8, fr: u8) -> Result<(), Refusal>
         ensures answers { result ≡ set_up_answer cr fr self.old }
         ensures refusals { refused_by result ≡ set_up_by cr fr self.old }

@@ -5,7 +5,8 @@ ghost use Rattle.board.specs.Record.{entry, placed};
 use terms::channel_id::ChannelId;
 use terms::report::{Report, ReportKind};
 
-// A report of a sweep: the number of its cycle, from 1 in each sweep, its channel, kind and word.
+// A report of a sweep: the number of its cycle, from 1 in each sweep, its channel, kind and word. These four fields are the record as its
+// readers ask for it, so that kind and word are no `Report` here.
 #[derive(Clone, Copy, PartialEq, Eq, Debug)]
 pub struct Record {
     pub cycle: u16,

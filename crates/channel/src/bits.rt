@@ -11,7 +11,7 @@ pub(crate) fn is_set(byte: u8, k: u8) -> bool
     (byte >> k) & 1 == 1
 }
 
-// The byte of eight bits, bit 7 first. They are eight parameters, as an array would have the same eight at each call and in the contract.
+// The byte of eight bits, bit 7 first. They are eight parameters: nothing but the one byte that is made here ever holds the eight together.
 pub(crate) fn byte_of(
     b7: bool,
     b6: bool,
@@ -24,12 +24,12 @@ pub(crate) fn byte_of(
 ) -> u8
     ensures { result ≡ byte_of b7 b6 b5 b4 b3 b2 b1 b0 }
 {
-    128 * b7 as u8
-        + 64 * b6 as u8
-        + 32 * b5 as u8
-        + 16 * b4 as u8
-        + 8 * b3 as u8
-        + 4 * b2 as u8
-        + 2 * b1 as u8
-        + b0 as u8
+    128 * u8::from(b7)
+        + 64 * u8::from(b6)
+        + 32 * u8::from(b5)
+        + 16 * u8::from(b4)
+        + 8 * u8::from(b3)
+        + 4 * u8::from(b2)
+        + 2 * u8::from(b1)
+        + u8::from(b0)
 }

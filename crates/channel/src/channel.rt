@@ -10,8 +10,8 @@ ghost use Rattle.channel.specs.Calls.{read_answer, after_read, write_answer, aft
 use crate::bits::{byte_of, is_set};
 use crate::control::Control;
 use crate::interrupts::{ALL, ALL_BUT_TDRE, Interrupts};
-use crate::modem::{Modem, ModemInput};
-use crate::receiving::{NO_ERRORS, Receiving};
+use crate::modem::Modem;
+use crate::receiving::{Errors, Receiving};
 use crate::sender::Sender;
 use serial::receiver::Receiver;
 use serial::transmitter::{Setting, Transmitter};
@@ -53,32 +53,15 @@ pub struct Ticks {
     transmitter: bool,
 }
 
-const LOW: ModemInput = ModemInput {
-    level: false,
-    changed: false,
-};
-
 impl Channel {
     // A channel at power on.
     pub fn power_on() -> Channel
         ensures { result ≡ powered_on }
     {
         Channel {
-            control: Control {
-                cr: 0,
-                fr: 0,
-                cdr: 0,
-                acr: 0,
-            },
-            modem: Modem {
-                cts: LOW,
-                dcd: LOW,
-                dsr: LOW,
-            },
-            interrupts: Interrupts {
-                enabled: 0,
-                requests: 0,
-            },
+            control: Control::default(),
+            modem: Modem::default(),
+            interrupts: Interrupts::default(),
             sender: Sender {
                 tdr: None,
                 transmitter: Transmitter::Resting,
@@ -86,7 +69,7 @@ impl Channel {
             receiving: Receiving {
                 rdr: 0,
                 rdrf: true,
-                errors: NO_ERRORS,
+                errors: Errors::default(),
                 asleep: false,
                 receiver: Receiver::Hunting,
             },
@@ -100,10 +83,9 @@ impl Channel {
         self.control.fr = self.control.fr | 3;
         self.control.acr = 0;
         self.modem.clear_changes();
-        self.interrupts.enabled = 0;
-        self.interrupts.requests = 0;
+        self.interrupts = Interrupts::default();
         self.receiving.rdr = 0;
-        self.receiving.errors = NO_ERRORS;
+        self.receiving.errors = Errors::default();
         self.receiving.asleep = false;
     }
 
@@ -248,11 +230,7 @@ impl Channel {
         ensures { (result, self.new) ≡ heard_on level self.old }
     {
         self.following(ALL_BUT_TDRE, |channel| {
-            let control = channel.control;
-            let show_bit = is_set(control.acr, 0);
-            channel
-                .receiving
-                .tick(control.format(), control.cdr, show_bit, level)
+            channel.receiving.tick(channel.control, level)
         })
     }
 
@@ -275,7 +253,7 @@ impl Channel {
     {
         match self.control.divisor() {
             Some(divisor) => {
-                let tick = self.count as u32 + 1 >= divisor as u32;
+                let tick = u32::from(self.count) + 1 >= u32::from(divisor);
                 self.count = if tick { 0 } else { self.count + 1 };
                 Ticks {
                     receiver: tick,

@@ -8,7 +8,7 @@ use crate::bits::is_set;
 use serial::format::{DataBits, Format, StopBits};
 use serial::parity::Parity;
 
-#[derive(Clone, Copy)]
+#[derive(Clone, Copy, Default)]
 pub struct Control {
     pub(crate) cr: u8,
     pub(crate) fr: u8,
@@ -29,6 +29,7 @@ fn divisor(code: u8) -> Option<u16>
 }
 
 // FR bits 6-5: the number of data bits, less 5. It is no `From<u8>`, nor is the parity: each is two bits of a register, and no byte.
+// Nor is it a table of the four cases: that would be as long as the match, and take the same number as its place.
 fn data_bits(fr: u8) -> DataBits
     ensures is { result ≡ data_at (fr / 32 % 4) }
     ensures counts { data_bits result ≡ 5 + fr / 32 % 4 }

@@ -1,10 +1,11 @@
 // The interrupt sources of a channel: which are enabled, and which have a request. Bits 6-0 are the sources in the order of ISR.
+// They are bytes and no set over an enum: a write to IER and the two ISR bytes of a change come as such bytes, and nothing asks for one source.
 ghost use Rattle.std.specs.Prelude.{◌≡◌, Bool, ◌==◌};
 ghost use Rattle.channel.specs.Interrupts.{followed, ier_written, dropped};
 
 use crate::bits::is_set;
 
-#[derive(Clone, Copy)]
+#[derive(Clone, Copy, Default)]
 pub struct Interrupts {
     pub(crate) enabled: u8,
     pub(crate) requests: u8,

@@ -4,7 +4,7 @@ ghost use Rattle.channel.specs.Modem.{input_set, modem_set, seen};
 
 use terms::modem_line::ModemLine;
 
-#[derive(Clone, Copy)]
+#[derive(Clone, Copy, Default)]
 pub struct ModemInput {
     pub(crate) level: bool,
     pub(crate) changed: bool,
@@ -21,7 +21,8 @@ impl ModemInput {
     }
 }
 
-#[derive(Clone, Copy)]
+// Three fields and no array by the line: the other modules ask for an input by its name, and would have to give its place.
+#[derive(Clone, Copy, Default)]
 pub struct Modem {
     pub(crate) cts: ModemInput,
     pub(crate) dcd: ModemInput,

@@ -1,27 +1,23 @@
 // The receiving side of a channel: RDR, its flags, and the receiver that fills it.
 ghost use Rattle.std.specs.Prelude.{◌≡◌, Bool};
+ghost use Rattle.serial.specs.Frame.{bit};
+ghost use Rattle.channel.specs.Control.{format_of};
 ghost use Rattle.channel.specs.Receiving.{reading, emptied, ending, heard_by};
 
-use serial::format::Format;
+use crate::bits::is_set;
+use crate::control::Control;
 use serial::receiver::{Received, Receiver};
 use terms::note::{ReadNote, Reading};
 use terms::report::{Report, ReportKind};
 
 // The flags that a read of RDR clears besides RDRF.
-#[derive(Clone, Copy)]
+#[derive(Clone, Copy, Default)]
 pub struct Errors {
     pub(crate) par: bool,
     pub(crate) fe: bool,
     pub(crate) ovr: bool,
     pub(crate) brk: bool,
 }
-
-pub(crate) const NO_ERRORS: Errors = Errors {
-    par: false,
-    fe: false,
-    ovr: false,
-    brk: false,
-};
 
 #[derive(Clone, Copy)]
 pub struct Receiving {
@@ -44,16 +40,16 @@ impl Receiving {
             ReadNote::Old
         };
         self.rdrf = false;
-        self.errors = NO_ERRORS;
+        self.errors = Errors::default();
         Reading {
             byte: self.rdr,
             note: Some(note),
         }
     }
 
-    // A frame has ended: the first rule that applies. `show_bit` is ACR bit 0.
-    fn end(&mut self, frame: Received, cdr: u8, show_bit: bool) -> Report
-        ensures { (Some result, self.new) ≡ ending frame cdr show_bit self.old }
+    // A frame has ended: the first rule that applies.
+    fn end(&mut self, frame: Received, control: Control) -> Report
+        ensures { (Some result, self.new) ≡ ending frame control.cdr (bit control.acr 0) self.old }
     {
         if frame.low {
             self.errors.brk = true;
@@ -64,7 +60,7 @@ impl Receiving {
         }
         let word = frame.word;
         let kind = if self.asleep {
-            self.asleep = word != cdr;
+            self.asleep = word != control.cdr;
             ReportKind::Passed
         } else if self.rdrf {
             self.errors.ovr = true;
@@ -73,23 +69,18 @@ impl Receiving {
             self.rdr = word;
             self.rdrf = true;
             self.errors.fe = !frame.stop;
+            let show_bit = is_set(control.acr, 0);
             self.errors.par = if show_bit { frame.parity } else { frame.wrong };
             ReportKind::Kept
         };
         Report { kind, word }
     }
 
-    // One tick of the receiver, with the format now set, CDR, ACR bit 0 and the level of RxD; answers how a frame ended here, if one did.
-    pub(crate) fn tick(
-        &mut self,
-        format: Format,
-        cdr: u8,
-        show_bit: bool,
-        level: bool,
-    ) -> Option<Report>
-        ensures { (result, self.new) ≡ heard_by format cdr show_bit level self.old }
+    // One tick of the receiver, with the registers as they are now and the level of RxD; answers how a frame ended here, if one did.
+    pub(crate) fn tick(&mut self, control: Control, level: bool) -> Option<Report>
+        ensures { (result, self.new) ≡ heard_by (format_of control.cr control.fr) control.cdr (bit control.acr 0) level self.old }
     {
-        let frame = self.receiver.tick(format, level)?;
-        Some(self.end(frame, cdr, show_bit))
+        let frame = self.receiver.tick(control.format(), level)?;
+        Some(self.end(frame, control))
     }
 }

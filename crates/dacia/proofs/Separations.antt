@@ -1,5 +1,5 @@
 -- Separation, by one induction over the calls for either channel.
-use Rattle.std.proofs.Common.{◌≡◌, ℕ, ◌%◌, Bool, true, false, cond, ◌||◌, ltb, List, [], ◌∷◌, ◌++◌, Ok, Err, sym, refl, ap, ◌∙◌}
+use Rattle.std.proofs.Common.{◌≡◌, ℕ, ◌%◌, Bool, true, false, cond, ◌||◌, ltb, List, [], ◌∷◌, Ok, Err, sym, refl, ap, ◌∙◌}
 use Rattle.std.proofs.lemmas.Bool.{true≢false}
 use Rattle.terms.specs.declared.channel_id.ChannelId.{ChannelId}
 use Rattle.terms.specs.declared.channel_id.ChannelId.TheVariants.{One, Two}
@@ -12,8 +12,8 @@ use Rattle.dacia.specs.declared.access.Place.{Place}
 use Rattle.dacia.specs.declared.chip.Chip.{Chip}
 use Rattle.dacia.specs.declared.chip.Inputs.{Inputs}
 use Rattle.dacia.specs.Access.{channel_at, register_at, place_at, access_at}
-use Rattle.dacia.specs.Chip.{channel_of, with_channel, chip_reset, read_of, after_read_of, write_of, after_write_of, after_read_once, after_write_once, chip_cycled}
-use Rattle.dacia.specs.Separation.{Call, reset, read, write, modem, cycle, step, note, reports, read_shown, write_shown, answer_of, answer, shown, same, concerns, own_inputs, own, only, struck, seen, Separated}
+use Rattle.dacia.specs.Chip.{channel_of, with_channel, answer_of, chip_reset, read_of, after_read_of, write_of, after_write_of, after_read_once, after_write_once, chip_cycled}
+use Rattle.dacia.specs.Separation.{Call, reset, read, write, modem, cycle, step, note, reports, read_shown, write_shown, answer, shown, same, concerns, own_inputs, own, struck, seen, Separated}
 
 -- a channel that was changed, and the other
 changed_same : (ch e : ChannelId) (x : Channel) (c : Chip) → same ch e ≡ true → channel_of ch (with_channel e x c) ≡ x
@@ -167,14 +167,14 @@ Agreeing ch ks = (c d : Chip) → channel_of ch c ≡ channel_of ch d → seen c
 
 -- one call more, by whether it is left
 agreeing_more : (ch : ChannelId) (k : Call) (ks : List Call) → Agreeing ch ks → (c d : Chip) → channel_of ch c ≡ channel_of ch d → (left : Bool) → concerns ch k ≡ left →
-    only left (shown ch k c) ++ seen ch ks (step k c) ≡ seen ch (only left (own ch k) ++ struck ch ks) d
+    cond left (shown ch k c ∷ seen ch ks (step k c)) (seen ch ks (step k c)) ≡ seen ch (cond left (own ch k ∷ struck ch ks) (struck ch ks)) d
 unfolding seen
 agreeing_more ch k ks rest c d a true h =
     let s = alike ch c d a k h in
     let left : concerns ch (own ch k) ≡ true = own_concerns ch k ∙ h in
     ap (λ z. z ∷ seen ch ks (step k c)) (same_shown ch k (own ch k) c d s)
     ∙ ap (λ zs. shown ch (own ch k) d ∷ zs) (rest (step k c) (step (own ch k) d) s.leaves)
-    ∙ ap (λ b. only b (shown ch (own ch k) d) ++ seen ch (struck ch ks) (step (own ch k) d)) (sym left)
+    ∙ ap (λ b. let rest = seen ch (struck ch ks) (step (own ch k) d) in cond b (shown ch (own ch k) d ∷ rest) rest) (sym left)
 agreeing_more ch k ks rest c d a false h = rest (step k c) d (apart ch k c h ∙ a)
 
 agreeing : (ch : ChannelId) (ks : List Call) → Agreeing ch ks

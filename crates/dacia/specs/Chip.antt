@@ -1,5 +1,6 @@
 -- The chip: two channels, and what each call answers and leaves.
 use Rattle.std.specs.Prelude.{ℕ, Bool, Option, Ok, Err, Result}
+use Rattle.std.specs.Borrow.{Lends, MutBor, Fml}
 use Rattle.terms.specs.declared.channel_id.ChannelId.{ChannelId}
 use Rattle.terms.specs.declared.channel_id.ChannelId.TheVariants.{One, Two}
 use Rattle.terms.specs.declared.modem_line.ModemLine.{ModemLine}
@@ -7,12 +8,15 @@ use Rattle.terms.specs.declared.note.Reading.{Reading}
 use Rattle.terms.specs.declared.note.WriteNote.{WriteNote}
 use Rattle.terms.specs.declared.refusal.Refusal.{Refusal}
 use Rattle.channel.specs.declared.channel.Channel.{Channel}
+use Rattle.channel.specs.declared.channel.ChannelAnswer.{ChannelAnswer}
+use Rattle.channel.specs.contracts.channel.Channel.{the_row as channel_row}
 use Rattle.channel.specs.Channel.{powered_on, after_reset, modem_changed}
 use Rattle.channel.specs.Calls.{read_answer, after_read, write_answer, after_write, cycled}
 use Rattle.dacia.specs.declared.chip.PoweredChip.{PoweredChip}
 use Rattle.dacia.specs.declared.chip.Chip.{Chip}
 use Rattle.dacia.specs.declared.chip.Inputs.{Inputs}
 use Rattle.dacia.specs.declared.chip.ChipAnswer.{ChipAnswer}
+use Rattle.dacia.specs.contracts.chip.Chip.{the_row}
 use Rattle.dacia.specs.Access.{ReadAccess, WriteAccess, read_opened, write_opened}
 
 abbrev pub channel_of : ChannelId → Chip → Channel
@@ -22,6 +26,15 @@ channel_of Two c = c.two
 abbrev pub with_channel : ChannelId → Channel → Chip → Chip
 with_channel One x c = record c { one = x }
 with_channel Two x c = record c { two = x }
+
+-- c ends with its channel ch as it is left behind r
+abbrev pub LendsChannel : ChannelId → MutBor Chip → MutBor Channel → Fml
+LendsChannel ch c r = Lends the_row channel_row c r (λ x. with_channel ch x c.now)
+
+-- the part of a cycle's answer that is a channel's
+abbrev pub answer_of : ChannelId → ChipAnswer → ChannelAnswer
+answer_of One a = a.one
+answer_of Two a = a.two
 
 abbrev pub powered_chip : PoweredChip
 powered_chip = record { one = powered_on; two = powered_on }

@@ -1,4 +1,3 @@
 pub mod Access
 pub mod Chip
 pub mod Separation
-pub mod Lending

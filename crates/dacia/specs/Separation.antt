@@ -1,5 +1,5 @@
 -- Separation: what one channel answers and shows does not depend on what is done to the other.
-use Rattle.std.specs.Prelude.{◌≡◌, ℕ, Bool, true, false, ◌||◌, List, [], ◌∷◌, ◌++◌, Option, Ok, Err, Result, ◌==◌, nat_lt}
+use Rattle.std.specs.Prelude.{◌≡◌, ℕ, Bool, true, cond, ◌||◌, List, [], ◌∷◌, Option, Ok, Err, Result, ◌==◌, nat_lt}
 use Rattle.terms.specs.declared.channel_id.ChannelId.{ChannelId}
 use Rattle.terms.specs.declared.channel_id.ChannelId.TheVariants.{One, Two}
 use Rattle.terms.specs.declared.modem_line.ModemLine.{ModemLine}
@@ -10,13 +10,11 @@ use Rattle.terms.specs.declared.refusal.Refusal.{Refusal}
 use Rattle.terms.specs.declared.report.Report.{Report}
 use Rattle.terms.specs.ChannelId.{channel_number}
 use Rattle.terms.specs.Refusal.{refusal_number}
-use Rattle.channel.specs.declared.channel.ChannelAnswer.{ChannelAnswer}
 use Rattle.channel.specs.Channel.{txd_of, irq_of}
 use Rattle.dacia.specs.declared.chip.Chip.{Chip}
 use Rattle.dacia.specs.declared.chip.Inputs.{Inputs}
-use Rattle.dacia.specs.declared.chip.ChipAnswer.{ChipAnswer}
 use Rattle.dacia.specs.Access.{channel_at}
-use Rattle.dacia.specs.Chip.{channel_of, chip_reset, read_once, after_read_once, write_once, after_write_once, modem_on, chip_cycled}
+use Rattle.dacia.specs.Chip.{channel_of, answer_of, chip_reset, read_once, after_read_once, write_once, after_write_once, modem_on, chip_cycled}
 
 -- the calls on a running chip; an access is opened and ended with nothing between
 pub data Call : Type 0 where
@@ -49,10 +47,6 @@ read_shown (Err e) = refused (refusal_number e)
 abbrev pub write_shown : Result (Option WriteNote) Refusal → Answer
 write_shown (Ok n) = note n
 write_shown (Err e) = refused (refusal_number e)
-
-abbrev pub answer_of : ChannelId → ChipAnswer → ChannelAnswer
-answer_of One a = a.one
-answer_of Two a = a.two
 
 unfoldable pub answer : ChannelId → Call → Chip → Answer
 answer ch reset c = silent
@@ -98,19 +92,15 @@ own ch (write s b) = write s b
 own ch (modem e line l) = modem e line l
 own ch (cycle i) = cycle (own_inputs ch i)
 
-abbrev pub only : {A : Type 0} → Bool → A → List A
-only true a = a ∷ []
-only false a = []
-
 -- a list of calls with the other channel's accesses, modem levels and RxD struck out
 unfoldable pub struck : ChannelId → List Call → List Call
 struck ch [] = []
-struck ch (k ∷ ks) = only (concerns ch k) (own ch k) ++ struck ch ks
+struck ch (k ∷ ks) = let rest = struck ch ks in cond (concerns ch k) (own ch k ∷ rest) rest
 
 -- all that a list of calls shows of a channel
 unfoldable pub seen : ChannelId → List Call → Chip → List Shown
 seen ch [] c = []
-seen ch (k ∷ ks) c = only (concerns ch k) (shown ch k c) ++ seen ch ks (step k c)
+seen ch (k ∷ ks) c = let rest = seen ch ks (step k c) in cond (concerns ch k) (shown ch k c ∷ rest) rest
 
 -- lists of calls that are alike for a channel show the same of it
 abbrev pub Separated : Chip → Type 0

@@ -15,15 +15,21 @@ pub struct Place {
     pub register: Register,
 }
 
-// What an access is opened for.
+// What an access is opened for: a read or a write. The trait is this module's own, so that nobody adds a third.
+trait Purpose {}
+
 #[derive(Clone, Copy)]
 pub struct ForReading;
 
 #[derive(Clone, Copy)]
 pub struct ForWriting;
 
+impl Purpose for ForReading {}
+
+impl Purpose for ForWriting {}
+
 // An access under way. It is no `Drop`: whoever opens one ends it.
-pub struct Access<K> {
+pub struct Access<K: Purpose> {
     pub(crate) place: Place,
     pub(crate) kind: PhantomData<K>,
 }
@@ -32,7 +38,8 @@ pub type ReadAccess = Access<ForReading>;
 
 pub type WriteAccess = Access<ForWriting>;
 
-// The register by the last two bits of its select. It is no `TryFrom`, as each of the four values that they have is a register.
+// The register by the last two bits of its select. It is no `TryFrom`, as each of the four values that they have is a register, and
+// no table of the four: that would be as long as the match, and take the same number as its place.
 fn register_at(number: u8) -> Register
     ensures { result ≡ register_at number }
 {
@@ -75,7 +82,7 @@ impl Place {
     }
 }
 
-impl<K> Access<K> {
+impl<K: Purpose> Access<K> {
     // Opens an access; a select above 7 opens nothing.
     pub fn open(select: u8) -> Result<Access<K>, Refusal>
         ensures is { result ≡ access_opened select }

@@ -3,9 +3,8 @@ ghost use Rattle.std.specs.Prelude.{◌≡◌};
 ghost use Rattle.terms.specs.Refusal.{refused_by};
 ghost use Rattle.channel.specs.Channel.{txd_of, irq_of};
 ghost use Rattle.dacia.specs.Access.{opens_by, reads_by, read_by};
-ghost use Rattle.dacia.specs.Chip.{channel_of, powered_chip, first_reset, chip_reset, read_ended, after_read_ended, write_ended, after_write_ended, modem_on, chip_cycled, read_once, after_read_once, write_once, after_write_once};
+ghost use Rattle.dacia.specs.Chip.{channel_of, LendsChannel, answer_of, powered_chip, first_reset, chip_reset, read_ended, after_read_ended, write_ended, after_write_ended, modem_on, chip_cycled, read_once, after_read_once, write_once, after_write_once};
 ghost use Rattle.dacia.specs.Separation.{Separated};
-ghost use Rattle.dacia.specs.Lending.{LendsChannel};
 ghost use Rattle.std.specs.Borrow.{sem};
 
 use crate::access::{Access, ReadAccess, WriteAccess};
@@ -45,6 +44,18 @@ pub struct ChipAnswer {
     pub two: ChannelAnswer,
 }
 
+impl ChipAnswer {
+    // The part of it that is a channel's.
+    pub fn of(self, channel: ChannelId) -> ChannelAnswer
+        ensures { result ≡ answer_of channel self }
+    {
+        match channel {
+            ChannelId::One => self.one,
+            ChannelId::Two => self.two,
+        }
+    }
+}
+
 impl PoweredChip {
     pub fn power_on() -> PoweredChip
         ensures { result ≡ powered_chip }
@@ -55,6 +66,7 @@ impl PoweredChip {
         }
     }
 
+    // Apart from `reset`, which promises separation besides: that is proved from what is said here, and not from the code.
     fn first_reset(self) -> Chip
         ensures { result ≡ first_reset self }
     {

@@ -23,7 +23,8 @@ pub fn first_bytes() -> Result<FirstBytes, Refusal>
     read_after_reset()
 }
 
-// Resets a chip and reads ISR1 and CSR1 of it.
+// Resets a chip and reads ISR1 and CSR1 of it. Apart from `first_bytes`, which has the figures besides: they are computed from the
+// definitions, and not from the code.
 fn read_after_reset() -> Result<FirstBytes, Refusal>
     ensures { result ≡ first_bytes }
 {

@@ -93,10 +93,6 @@ parity_law Even w = let e : ones w % 2 % 2 ≡ ones w % 2 = omega arith in rw e 
 parity_law Mark w = refl
 parity_law Space w = refl
 
-check_law : (p : Option Parity) (w : ℕ) → CheckLaw p w (eqb (check_bit p w % 2) 1)
-check_law None w = tt
-check_law (Some q) w = parity_law q w
-
 -- the parity bit lies above the word, where there is one
 above_word : (p : Option Parity) (n w m : ℕ) → w < 2 ^ n →
     CheckLaw p w (bit ((2 * w + check_bit p w * 2 ^ (1 + n)) + m * 2 ^ (1 + n + parity_bits p)) (1 + n))
@@ -148,10 +144,10 @@ frame_masks x v h =
     by_masks (data_bits x.bits) (parity_bits x.parity) v (check_bit x.parity v) h (check_bit_low x.parity v) (stop_bits x.stops) (2 ^ stop_bits x.stops - 1)
     (ones_low (stop_bits x.stops)) (data_bounds x.bits).1 (parity_bounds x.parity) (stop_bounds x.stops).1
 
--- the same over the parts as the code has them: the parity bit q, and the counts of stop bits, data bits and bits before the stop bits
-pub masked : (x : Format) (v q s n k : ℕ) → v < 2 ^ data_bits x.bits → q ≡ check_bit x.parity v → s ≡ stop_bits x.stops → n ≡ data_bits x.bits → k ≡ stop_at x →
-    bit_or (bit_or ((v * 2) % 65536) ((q * 2 ^ (1 + n)) % 65536)) ((((1 * 2 ^ s) % 65536 - 1) * 2 ^ k) % 65536) ≡ packed x v
-masked x v q s n k low eq es en ek =
+-- the same over the parts as the code has them: the word w, the parity bit q, and the counts of stop bits, data bits and bits before the stop bits
+pub masked : (x : Format) (v w q s n k : ℕ) → v < 2 ^ data_bits x.bits → w ≡ v → q ≡ check_bit x.parity v → s ≡ stop_bits x.stops → n ≡ data_bits x.bits → k ≡ stop_at x →
+    bit_or (bit_or ((w * 2) % 65536) ((q * 2 ^ (1 + n)) % 65536)) ((((1 * 2 ^ s) % 65536 - 1) * 2 ^ k) % 65536) ≡ packed x v
+masked x v w q s n k low ew eq es en ek =
     let few : stop_bits x.stops < 16 = omega (arith, (stop_bounds x.stops).1) in
     let shifted : (1 * 2 ^ stop_bits x.stops) % 65536 ≡ 2 ^ stop_bits x.stops = one_shl (stop_bits x.stops) 16 few in
-    rw (eq, es, en, ek, shifted) (frame_masks x v low)
+    rw (ew, eq, es, en, ek, shifted) (frame_masks x v low)

@@ -16,8 +16,8 @@ frame_at x c b = record { format = x; count = c; bits = b }
 abbrev pub gathering : Format → ℕ → ℕ → Receiver
 gathering x c b = UnderWay (frame_at x c b)
 
-abbrev pub begun : Format → Gathering
-begun x = frame_at x 0 0
+abbrev pub new_gathering : Format → Gathering
+new_gathering x = frame_at x 0 0
 
 -- gathered bits with the level l as bit k
 abbrev pub with_bit : ℕ → Bool → ℕ → ℕ
@@ -65,6 +65,6 @@ gathered x c b l = cond (nat_lt c (16 * stop_at x + 8)) (None, counted x c b l) 
 
 -- one tick: the frame that ends here, and the receiver then; a frame keeps the format that it began with
 abbrev pub heard : Format → Bool → Receiver → Option Received × Receiver
-heard x l Hunting = (None, cond l Hunting (UnderWay (begun x)))
+heard x l Hunting = (None, cond l Hunting (UnderWay (new_gathering x)))
 heard x l (UnderWay g) = gathered g.format (g.count + 1) g.bits l
 heard x l Waiting = (None, cond l Hunting Waiting)

@@ -13,6 +13,7 @@ pub enum DataBits {
     Eight = 8,
 }
 
+// How many they are. No trait of the two enums: each would say the same line for itself, and nothing is generic over them.
 impl DataBits {
     pub(crate) fn count(self) -> u8
         ensures { result ≡ data_bits self }
@@ -84,7 +85,7 @@ impl Format {
         ensures is { result ≡ frame self word }
         ensures law { FrameLaw self word result }
     {
-        let data = self.cut(word as u16);
+        let data = self.cut(u16::from(word));
         self.pack(data)
     }
 
@@ -96,6 +97,8 @@ impl Format {
     {
         let parity = self.check_bit(word);
         let stops: u16 = (1 << self.stops.count()) - 1;
-        (word as u16) << 1 | (parity as u16) << (1 + self.bits.count()) | stops << self.stop_at()
+        u16::from(word) << 1
+            | u16::from(parity) << (1 + self.bits.count())
+            | stops << self.stop_at()
     }
 }

@@ -1,6 +1,6 @@
 // A receiver: it hunts for a start bit, gathers the bits of a frame, or waits for the line to go high.
 ghost use Rattle.std.specs.Prelude.{◌≡◌, ◌+◌, ◌<◌, Bool};
-ghost use Rattle.serial.specs.Receiver.{begun, grown, word_of, parity_of, received, counted, gathered, heard};
+ghost use Rattle.serial.specs.Receiver.{new_gathering, grown, word_of, parity_of, received, counted, gathered, heard};
 
 use crate::format::{Format, bit_at};
 
@@ -32,7 +32,7 @@ pub struct Received {
 impl Gathering {
     // Before the first bit.
     fn new(format: Format) -> Gathering
-        ensures { result ≡ begun format }
+        ensures { result ≡ new_gathering format }
     {
         Gathering {
             format,
@@ -47,7 +47,7 @@ impl Gathering {
         ensures { result ≡ grown level k self }
     {
         Gathering {
-            bits: self.bits | (level as u16) << k,
+            bits: self.bits | u16::from(level) << k,
             ..self
         }
     }
@@ -90,7 +90,7 @@ impl Receiver {
         ensures { (result, self.new) ≡ gathered frame.format (frame.count + 1) frame.bits level }
     {
         let stop_at = frame.format.stop_at();
-        if frame.count as u16 + 1 < 16 * stop_at as u16 + 8 {
+        if u16::from(frame.count) + 1 < 16 * u16::from(stop_at) + 8 {
             self.sample(
                 Gathering {
                     count: frame.count + 1,

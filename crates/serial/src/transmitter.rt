@@ -88,7 +88,7 @@ impl Transmitter {
                 count,
                 ..
             } => {
-                if *count as u16 + 1 < 16 * own.frame_bits() as u16 {
+                if u16::from(*count) + 1 < 16 * u16::from(own.frame_bits()) {
                     *count += 1;
                     false
                 } else {
@@ -97,7 +97,7 @@ impl Transmitter {
             }
             Transmitter::Breaking { format: own, count } => {
                 let end = 16 * own.frame_bits();
-                if (*count as u16) + 1 < end as u16 {
+                if u16::from(*count) + 1 < u16::from(end) {
                     *count += 1;
                 } else if set.break_on {
                     *count = end;
