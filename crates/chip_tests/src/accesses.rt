@@ -2,7 +2,7 @@
 use crate::bench::*;
 use crate::script::Step::*;
 use crate::script::{play, play_at};
-use dacia::access::{Access, ReadAccess, WriteAccess};
+use dacia::access::{ReadAccess, WriteAccess};
 use dacia::chip::{Chip, Inputs, PoweredChip};
 use std::process::Abort;
 use std::test::*;
@@ -14,29 +14,18 @@ use terms::refusal::Refusal;
 // The selects that can be read.
 const READABLE: [u8; 6] = [0, 1, 3, 4, 5, 7];
 
-// Why no access is opened; one that is opened is ended.
-fn refused<K, F: FnOnce(Access<K>)>(opened: Result<Access<K>, Refusal>, end: F) -> Option<Refusal>
-    requires { F.IsAlwaysCallable end }
-{
-    match opened {
-        Ok(access) => {
-            end(access);
-            None
-        }
-        Err(refusal) => Some(refusal),
-    }
-}
-
+// Why no read is opened; one that is opened is ended.
 fn refused_read(chip: &mut Chip, select: u8) -> Option<Refusal> {
-    refused(ReadAccess::open(select), |access| {
-        let _ = chip.end_read(access);
-    })
+    ReadAccess::open(select)
+        .map(|access| chip.end_read(access))
+        .err()
 }
 
+// Why no write is opened; one that is opened is ended.
 fn refused_write(chip: &mut Chip, select: u8) -> Option<Refusal> {
-    refused(WriteAccess::open(select), |access| {
-        chip.end_write(access, 0xff);
-    })
+    WriteAccess::open(select)
+        .map(|access| chip.end_write(access, 0xff))
+        .err()
 }
 
 // One cycle with RxD1 low.
@@ -51,11 +40,11 @@ fn step(chip: &mut Chip) {
 // A chip with something to show in each register: requests, changes, a frame being sent, one being gathered and a word waiting.
 fn busy_chip() -> Result<Chip, Refusal> {
     let mut chip = PoweredChip::power_on().reset();
-    for base in [0, 4] {
-        chip.write(base, 0xff)?;
-        chip.write(base | 1, 0x0f)?;
-        chip.write(base | 1, 0xe1)?;
-        chip.write(base | 3, 0x41)?;
+    for channel in CHANNELS {
+        chip.write(select(channel, IER), 0xff)?;
+        chip.write(select(channel, CR), 0x0f)?;
+        chip.write(select(channel, FR), 0xe1)?;
+        chip.write(select(channel, TDR), 0x41)?;
     }
     for _ in 0..40 {
         step(&mut chip);

@@ -163,6 +163,11 @@ fn bit(number: u16, place: u8) -> bool {
     number.checked_shr(u32::from(place)).unwrap_or(0) % 2 == 1
 }
 
+// The select of a channel's register.
+pub(crate) fn select(channel: ChannelId, register: Register) -> u8 {
+    Place { channel, register }.select()
+}
+
 // A cycle of a chip with one level on the RxD of a channel and another on that of the other one.
 pub(crate) fn cycle_of(
     chip: &mut Chip,
@@ -205,14 +210,8 @@ impl Bench {
         Ok(bench)
     }
 
-    fn select(&self, register: Register) -> u8 {
-        let channel = self.channel;
-        Place { channel, register }.select()
-    }
-
     pub(crate) fn read(&mut self, register: Register) -> Result<Reading, Refusal> {
-        let select = self.select(register);
-        self.chip.read(select)
+        self.chip.read(select(self.channel, register))
     }
 
     pub(crate) fn write(
@@ -220,8 +219,7 @@ impl Bench {
         register: Register,
         byte: u8,
     ) -> Result<Option<WriteNote>, Refusal> {
-        let select = self.select(register);
-        self.chip.write(select, byte)
+        self.chip.write(select(self.channel, register), byte)
     }
 
     // Writes ACR, and leaves CR at $0F.

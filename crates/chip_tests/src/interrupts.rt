@@ -6,7 +6,7 @@ use std::test::*;
 use terms::modem_line::ModemLine;
 use terms::refusal::Refusal;
 
-// What makes a source rise.
+// What makes a source rise. An enum and no closures, since `CAUSES` is a table of constants.
 #[derive(Clone, Copy)]
 enum Cause {
     WordTaken,

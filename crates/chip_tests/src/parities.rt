@@ -36,15 +36,12 @@ fn sends_each_word(
 ) -> Result<(), Fail> {
     for word in 0..=length.greatest {
         bench.write(TDR, word)?;
-        bench.sends_frame(
-            rt,
-            Frame {
-                word,
-                bits: length.bits,
-                parity: Some(right_bit(parity, word)),
-                stops: 1,
-            },
-        )?;
+        let frame = Frame {
+            bits: length.bits,
+            parity: Some(right_bit(parity, word)),
+            ..plain(word)
+        };
+        bench.sends_frame(rt, frame)?;
     }
     Ok(())
 }
@@ -71,15 +68,12 @@ fn the_parity_is_that_of_the_cut_word(rt: HostRuntime) -> Result<(), Fail> {
             let mut bench = Bench::clocked(channel, 0x84 | fr)?;
             for word in 0..=255 {
                 bench.write(TDR, word)?;
-                bench.sends_frame(
-                    &rt,
-                    Frame {
-                        word,
-                        bits: 5,
-                        parity: Some(right_bit(parity, word % 32)),
-                        stops: 1,
-                    },
-                )?;
+                let frame = Frame {
+                    bits: 5,
+                    parity: Some(right_bit(parity, word % 32)),
+                    ..plain(word)
+                };
+                bench.sends_frame(&rt, frame)?;
             }
         }
     }
@@ -111,10 +105,9 @@ fn hears_each_word(
         for bit in [right, !right] {
             let par = if shows_bit { bit } else { bit != right };
             let frame = Frame {
-                word,
                 bits: length.bits,
                 parity: Some(bit),
-                stops: 1,
+                ..plain(word)
             };
             hears(rt, bench, frame, par)?;
         }

@@ -92,7 +92,7 @@ fn a_bit_lasts_16_divisors(rt: HostRuntime) -> Result<(), Fail> {
             let mut bench = Bench::new(channel);
             bench.write(CR, code)?;
             bench.write(TDR, 0x01)?;
-            let falls = divisor as u32;
+            let falls = u32::from(divisor);
             let rises = 17 * falls;
             for cycle in 1..=rises {
                 let level = cycle < falls || cycle == rises;
@@ -111,7 +111,7 @@ fn a_break_is_reported_at_the_153rd_divisor(rt: HostRuntime) -> Result<(), Fail>
             let mut bench = Bench::new(channel);
             bench.write(CR, code)?;
             bench.write(FR, 0xe0)?;
-            let end = 153 * divisor as u32;
+            let end = 153 * u32::from(divisor);
             for cycle in 1..=end {
                 let report = if cycle < end {
                     None

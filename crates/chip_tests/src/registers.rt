@@ -14,15 +14,11 @@ fn each_word_is_sent_cut_to_its_length(rt: HostRuntime) -> Result<(), Fail> {
             let mut bench = Bench::clocked(channel, fr)?;
             for word in 0..=255 {
                 bench.write(TDR, word)?;
-                bench.sends_frame(
-                    &rt,
-                    Frame {
-                        word,
-                        bits,
-                        parity: None,
-                        stops: 1,
-                    },
-                )?;
+                let frame = Frame {
+                    bits,
+                    ..plain(word)
+                };
+                bench.sends_frame(&rt, frame)?;
             }
             bench.sends_level(&rt, HIGH, 200)?;
         }
@@ -38,10 +34,8 @@ fn each_word_is_kept_at_its_length(rt: HostRuntime) -> Result<(), Fail> {
             let mut bench = Bench::clocked(channel, fr)?;
             for word in 0..=greatest {
                 let frame = Frame {
-                    word,
                     bits,
-                    parity: None,
-                    stops: 1,
+                    ..plain(word)
                 };
                 assert_eq!(rt; bench.hears_frame(frame), kept(word));
                 bench.rdr_is(&rt, word, ReadNote::Fresh)?;
@@ -60,15 +54,11 @@ fn cr_bit_5_makes_two_stop_bits(rt: HostRuntime) -> Result<(), Fail> {
             bench.write(CR, cr)?;
             for word in [0x41, 0x00, 0xff] {
                 bench.write(TDR, word)?;
-                bench.sends_frame(
-                    &rt,
-                    Frame {
-                        word,
-                        bits: 8,
-                        parity: None,
-                        stops,
-                    },
-                )?;
+                let frame = Frame {
+                    stops,
+                    ..plain(word)
+                };
+                bench.sends_frame(&rt, frame)?;
             }
         }
     }
