@@ -121,7 +121,7 @@ fn a_line_is_not_quiet_as_long_as_it_holds_a_low_level(rt: HostRuntime) -> Resul
     // a start bit of 96 cycles, from cycle 7 to 102, and then only high levels
     for cycle in 1..=166u16 {
         board.cycle();
-        if cycle >= 7 && cycle < 166 {
+        if (7..166).contains(&cycle) {
             assert_eq!(rt;
                 board.set_up(0x0e, 0xe3),
                 Err(Refusal::LineNotQuiet),
