@@ -1,11 +1,11 @@
 // A board on the bench: it is done to as a step says, and each thing that happens is told in a line.
-ghost use Rattle.std.specs.Prelude.{◌≡◌, Ok, IfOk};
+ghost use Rattle.std.specs.Prelude.{◌≡◌, true, Ok, IfOk};
 ghost use Rattle.std.specs.Borrow.{sem};
 ghost use Rattle.terms.specs.Refusal.{refused_by};
 ghost use Rattle.dacia.specs.Access.{place_at, read_opened, opens_by};
 ghost use Rattle.terms.specs.declared.channel_id.ChannelId.TheVariants.{One, Two};
 ghost use Rattle.loopback.specs.Bench.{LendsTold, other, told_of};
-ghost use Rattle.loopback.specs.Tally.{report_to};
+ghost use Rattle.loopback.specs.Tally.{no_counts, report_to};
 
 use crate::names::{Level, Name, Note, Shown, Word};
 use crate::tally::Tally;
@@ -33,6 +33,7 @@ const PATIENCE: u32 = 10_000;
 // Room for a sweep of 2,048 cycles.
 const ROOM: usize = 4096;
 
+// What the room has at first: a sweep writes into records that it is lent.
 const BLANK: Record = Record {
     cycle: 0,
     channel: ChannelId::One,
@@ -293,7 +294,10 @@ impl Bench {
 
 impl Told {
     // Of a channel of a new board, which asks for nothing.
-    fn new(heap: Global) -> Told {
+    fn new(heap: Global) -> Told
+        ensures irq { result.irq ≡ true }
+        ensures counts { result.sent.counts ≡ no_counts }
+    {
         Told {
             irq: true,
             sent: Tally::new(heap),
