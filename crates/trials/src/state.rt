@@ -42,6 +42,25 @@ bitflags! {
     }
 }
 
+// What a channel was before something, and what it is after it.
+#[derive(Clone, Copy, PartialEq, Eq, Debug)]
+pub(crate) struct Step {
+    pub(crate) was: State,
+    pub(crate) is: State,
+}
+
+impl Step {
+    // The facts that have begun.
+    pub(crate) fn begun(self) -> State {
+        self.is.difference(self.was)
+    }
+
+    // The facts that have ended.
+    pub(crate) fn ended(self) -> State {
+        self.was.difference(self.is)
+    }
+}
+
 impl From<View<'_>> for State {
     fn from(view: View<'_>) -> State {
         let requests = u32::from(view.requests.byte());
