@@ -110,7 +110,8 @@ impl<A: Line, B: Line> Board<A, B> {
         self.try_set_up(cr, fr)
     }
 
-    // Apart from `set_up`, which promises delivery besides: that is proved from what is said here, and not from the code.
+    // Apart from `set_up`, which promises delivery besides. That is proved from the clauses here and names no step of the code, so that a
+    // wrong step is refused by the clause which it breaks, and not by a proof that no longer fits.
     fn try_set_up(&mut self, cr: u8, fr: u8) -> Result<(), Refusal>
         ensures answers { result ≡ set_up_answer cr fr self.old }
         ensures refusals { refused_by result ≡ set_up_by cr fr self.old }

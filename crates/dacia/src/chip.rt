@@ -66,22 +66,15 @@ impl PoweredChip {
         }
     }
 
-    // Apart from `reset`, which promises separation besides: that is proved from what is said here, and not from the code.
-    fn first_reset(self) -> Chip
-        ensures { result ≡ first_reset self }
-    {
-        let PoweredChip { one, two } = self;
-        let mut chip = Chip { one, two };
-        chip.reset();
-        chip
-    }
-
     // The first reset, which gives the chip that allows everything else. From here on nothing done to one channel shows on the other.
     pub fn reset(self) -> Chip
         ensures is { result ≡ first_reset self }
         ensures separation { Separated result }
     {
-        self.first_reset()
+        let PoweredChip { one, two } = self;
+        let mut chip = Chip { one, two };
+        chip.reset();
+        chip
     }
 }
 

@@ -15,18 +15,10 @@ pub struct FirstBytes {
     pub csr: u8,
 }
 
-// Its contract has the other figures too.
+// Resets a chip and reads ISR1 and CSR1 of it. The contract has the other figures too, which are computed from the definitions.
 pub fn first_bytes() -> Result<FirstBytes, Refusal>
     ensures bytes { result ≡ first_bytes }
     ensures figures { Figures × BoardFigures }
-{
-    read_after_reset()
-}
-
-// Resets a chip and reads ISR1 and CSR1 of it. Apart from `first_bytes`, which has the figures besides: they are computed from the
-// definitions, and not from the code.
-fn read_after_reset() -> Result<FirstBytes, Refusal>
-    ensures { result ≡ first_bytes }
 {
     let mut chip = PoweredChip::power_on().reset();
     let isr = chip.read(0)?.byte;

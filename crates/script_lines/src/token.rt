@@ -9,6 +9,7 @@ use script_words::command::Command;
 use script_words::fault::Fault;
 use script_words::word::Word;
 
+// An enum and no letter beside a word, so that a reader of tokens says by their cases what it does.
 #[derive(Clone, Copy)]
 pub enum Token<'a> {
     Read(Word<'a>),

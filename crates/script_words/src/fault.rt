@@ -6,7 +6,7 @@ use crate::refusal::ScriptRefusal;
 use std::alloc::AllocFailed;
 
 // Why a list of bytes is no script, and where: line and column count from 1.
-// The two are no struct of their own: nothing takes or gives them alone, and a word's column is a narrower number.
+// The two are no struct of their own: a word, from which they come, has a narrower column, so that every byte behind it has a number too.
 #[derive(Clone, Copy, PartialEq, Debug)]
 pub struct Fault {
     pub refusal: ScriptRefusal,

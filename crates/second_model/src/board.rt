@@ -1,12 +1,13 @@
 // The board: the chip, and a line each way between its channels.
 
 use super::chip::{Answer, Chip, Pins};
+use super::clock::Ticks;
 use super::delay::Delay;
 use super::outcome::{Event, Refusal, SweepError};
 use super::side::{Both, Side};
 
 // The most cycles of a sweep.
-const LONGEST: u32 = 2048;
+const LONGEST: u16 = 2048;
 
 // The board. Its chip can be used for accesses and modem levels.
 #[derive(Drop)]
@@ -47,22 +48,21 @@ impl Board {
         let one = self.to_one.pass(self.chip.txd(Side::Two));
         self.chip.cycle(Pins {
             rxd: Both { one, two },
-            rxc: false,
-            txc: false,
+            marks: Ticks::default(),
         })
     }
 
     // A sweep into room for this many records. The events of it are added to the log.
     pub fn sweep(
         &mut self,
-        cycles: u32,
+        cycles: u16,
         room: usize,
         log: &mut Vec<Event>,
     ) -> Result<(), SweepError> {
-        if cycles == 0 || cycles > LONGEST {
+        if !(1..=LONGEST).contains(&cycles) {
             return Err(Refusal::BadSweepLength.into());
         }
-        if room < 2 * cycles as usize {
+        if room < 2 * usize::from(cycles) {
             return Err(Refusal::TooFewRecords.into());
         }
         for cycle in 1..=cycles {

@@ -1,5 +1,5 @@
 use Rattle.dacia.proofs.Separations.{separated}
 use Rattle.dacia.proofs.chip.PoweredChip.reset.Goals as goal
 
-pub returns : goal.returns
-returns c = record { is = c.first_reset.ensures; separation = separated _ }
+pub returns-clause-separation : goal.returns-clause-separation
+returns-clause-separation c = separated _
