@@ -7,7 +7,7 @@ use super::outcome::{Event, Refusal, SweepError};
 use super::side::{Both, Side};
 
 // The most cycles of a sweep.
-const LONGEST: u16 = 2048;
+const LONGEST: u32 = 2048;
 
 // The board. Its chip can be used for accesses and modem levels.
 #[derive(Drop)]
@@ -55,14 +55,15 @@ impl Board {
     // A sweep into room for this many records. The events of it are added to the log.
     pub fn sweep(
         &mut self,
-        cycles: u16,
+        cycles: u32,
         room: usize,
         log: &mut Vec<Event>,
     ) -> Result<(), SweepError> {
         if !(1..=LONGEST).contains(&cycles) {
             return Err(Refusal::BadSweepLength.into());
         }
-        if room < 2 * usize::from(cycles) {
+        // a cast, as `usize` has no `From<u32>`
+        if room < 2 * cycles as usize {
             return Err(Refusal::TooFewRecords.into());
         }
         for cycle in 1..=cycles {

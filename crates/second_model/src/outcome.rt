@@ -37,7 +37,7 @@ pub enum Report {
 // A report of a sweep.
 #[derive(Clone, Copy, PartialEq, Eq, Debug)]
 pub struct Event {
-    pub cycle: u16,
+    pub cycle: u32,
     pub side: Side,
     pub report: Report,
 }

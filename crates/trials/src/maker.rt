@@ -414,7 +414,7 @@ pub(crate) fn history(heap: Global, seed: u64) -> Result<History, AllocError> {
     let device = if seed % 8 != 7 {
         // one history in five does without the first calls
         if !maker.random.chance(20) {
-            for channel in [ChannelId::One, ChannelId::Two] {
+            for channel in ChannelId::BOTH {
                 calls.extend_from_slice(&maker.first_calls(channel))?;
             }
         }

@@ -169,13 +169,15 @@ impl<'a, F: First, S: Second> Rig<'a, F, S> {
     fn cycle(&mut self, inputs: Inputs) -> Result<(), Stop> {
         let first = self.first.cycle(inputs);
         let second = self.second.cycle(inputs);
-        let one = |answer| Answer::Cycle(ChannelId::One, answer);
-        let two = |answer| Answer::Cycle(ChannelId::Two, answer);
-        self.place.same(one, first.one, second.one)?;
-        self.place.same(two, first.two, second.two)?;
+        for channel in ChannelId::BOTH {
+            let told = |answer| Answer::Cycle(channel, answer);
+            self.place
+                .same(told, first.of(channel), second.of(channel))?;
+        }
         self.same_levels()?;
-        self.look(ChannelId::One, first.one.report);
-        self.look(ChannelId::Two, first.two.report);
+        for channel in ChannelId::BOTH {
+            self.look(channel, first.of(channel).report);
+        }
         self.counts.made(F::ALONE);
         Ok(())
     }

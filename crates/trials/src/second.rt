@@ -104,7 +104,7 @@ impl Played for Board {
         records: &mut [Record],
     ) -> Result<Result<usize, Refusal>, AllocError> {
         let mut log = Vec::new(heap);
-        match Board::sweep(self, cycles, records.len(), &mut log) {
+        match Board::sweep(self, u32::from(cycles), records.len(), &mut log) {
             Ok(()) => {}
             Err(SweepError::Refused(why)) => return Ok(Err(refusal(why))),
             Err(SweepError::OutOfMemory(error)) => return Err(error),
@@ -212,7 +212,7 @@ fn channel_answer(answer: Answer) -> ChannelAnswer {
 fn record(event: Event) -> Record {
     let Report { kind, word } = report(event.report);
     Record {
-        cycle: event.cycle,
+        cycle: u16::try_from(event.cycle).unwrap_or(u16::MAX),
         channel: match event.side {
             Side::One => ChannelId::One,
             Side::Two => ChannelId::Two,
