@@ -66,7 +66,7 @@ fn every_pair_of_values_is_accepted_or_refused_by_its_number(rt: HostRuntime) ->
             let answer = board.set_up(cr, fr);
             assert_eq!(rt; answer, due(cr, fr, true), "CR {cr} FR {fr}");
             if answer.is_ok() {
-                for channel in [ChannelId::One, ChannelId::Two] {
+                for channel in ChannelId::BOTH {
                     shows_set_up(&rt, &mut board, channel, fr)?;
                 }
             }

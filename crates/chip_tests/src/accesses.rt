@@ -40,7 +40,7 @@ fn step(chip: &mut Chip) {
 // A chip with something to show in each register: requests, changes, a frame being sent, one being gathered and a word waiting.
 fn busy_chip() -> Result<Chip, Refusal> {
     let mut chip = PoweredChip::power_on().reset();
-    for channel in CHANNELS {
+    for channel in ChannelId::BOTH {
         chip.write(select(channel, IER), 0xff)?;
         chip.write(select(channel, CR), 0x0f)?;
         chip.write(select(channel, FR), 0xe1)?;
@@ -58,7 +58,7 @@ fn busy_chip() -> Result<Chip, Refusal> {
 // Two chips read the same and keep the same levels, now and through the next cycles.
 fn are_alike(rt: &impl Abort, mut left: Chip, mut right: Chip) -> Result<(), Fail> {
     for cycle in 0..200u8 {
-        for channel in CHANNELS {
+        for channel in ChannelId::BOTH {
             assert_eq!(rt; left.txd(channel), right.txd(channel), "{}", cycle);
             assert_eq!(rt; left.irq(channel), right.irq(channel), "{}", cycle);
         }
@@ -167,7 +167,7 @@ fn a_write_works_when_it_is_ended(rt: HostRuntime) -> Result<(), Fail> {
 
 #[test]
 fn rdr_is_fresh_once(rt: HostRuntime) -> Result<(), Fail> {
-    for channel in CHANNELS {
+    for channel in ChannelId::BOTH {
         let mut bench = Bench::new(channel);
         play(
             &rt,
@@ -217,7 +217,7 @@ fn tdr_is_replaced_until_its_word_is_taken(rt: HostRuntime) -> Result<(), Fail> 
 
 #[test]
 fn the_other_registers_have_no_note(rt: HostRuntime) -> Result<(), Fail> {
-    for channel in CHANNELS {
+    for channel in ChannelId::BOTH {
         let mut bench = Bench::new(channel);
         assert_eq!(rt; bench.read(ISR)?.note, None);
         assert_eq!(rt; bench.read(CSR)?.note, None);

@@ -13,8 +13,6 @@ use terms::refusal::Refusal;
 use terms::register::Register;
 use terms::report::{Report, ReportKind};
 
-pub(crate) const CHANNELS: [ChannelId; 2] = [ChannelId::One, ChannelId::Two];
-
 pub(crate) const LOW: bool = false;
 
 pub(crate) const HIGH: bool = true;

@@ -13,7 +13,7 @@ use terms::register::Register;
 // A chip with rate code 14 and plain frames in both channels, and nothing to read.
 fn set_up() -> Result<Chip, Refusal> {
     let mut chip = PoweredChip::power_on().reset();
-    for channel in CHANNELS {
+    for channel in ChannelId::BOTH {
         chip.write(select(channel, CR), 0x0e)?;
         chip.write(select(channel, FR), 0xe0)?;
         chip.read(select(channel, RDR))?;
@@ -164,7 +164,7 @@ fn a_cycle_answers_the_levels_that_it_leaves(rt: HostRuntime) -> Result<(), Fail
     let mut dice = Dice { state: 52 };
     let mut chip = PoweredChip::power_on().reset();
     for cycle in 0..200000u32 {
-        for channel in CHANNELS {
+        for channel in ChannelId::BOTH {
             done(thrown(&mut dice), &mut chip, channel);
         }
         let inputs = Inputs {
@@ -176,7 +176,7 @@ fn a_cycle_answers_the_levels_that_it_leaves(rt: HostRuntime) -> Result<(), Fail
             },
         };
         let answer = chip.cycle(inputs);
-        for channel in CHANNELS {
+        for channel in ChannelId::BOTH {
             let ChannelAnswer { txd, irq, .. } = answer.of(channel);
             assert_eq!(rt; txd, chip.txd(channel), "{}", cycle);
             assert_eq!(rt; irq, chip.irq(channel), "{}", cycle);

@@ -3,10 +3,11 @@ use crate::bench::*;
 use crate::script::Step::*;
 use crate::script::{play, play_at};
 use std::test::*;
+use terms::channel_id::ChannelId;
 
 #[test]
 fn a_reset_chip_reads_c1_and_43(rt: HostRuntime) -> Result<(), Fail> {
-    for channel in CHANNELS {
+    for channel in ChannelId::BOTH {
         let mut bench = Bench::new(channel);
         play(&rt, &mut bench, &[Read(ISR, 0xc1), Read(CSR, 0x43)])?;
     }

@@ -3,13 +3,14 @@ use crate::bench::*;
 use crate::script::Step::*;
 use crate::script::play_at;
 use std::test::*;
+use terms::channel_id::ChannelId;
 use terms::note::ReadNote;
 use terms::report::ReportKind;
 
 // FR bits 6-5 and TDR: each word is sent cut to its data bits, with the next one right behind it.
 #[test]
 fn each_word_is_sent_cut_to_its_length(rt: HostRuntime) -> Result<(), Fail> {
-    for channel in CHANNELS {
+    for channel in ChannelId::BOTH {
         for Length { fr, bits, .. } in LENGTHS {
             let mut bench = Bench::clocked(channel, fr)?;
             for word in 0..=255 {
@@ -29,7 +30,7 @@ fn each_word_is_sent_cut_to_its_length(rt: HostRuntime) -> Result<(), Fail> {
 // FR bits 6-5 and RDR: each word is kept and read.
 #[test]
 fn each_word_is_kept_at_its_length(rt: HostRuntime) -> Result<(), Fail> {
-    for channel in CHANNELS {
+    for channel in ChannelId::BOTH {
         for Length { fr, bits, greatest } in LENGTHS {
             let mut bench = Bench::clocked(channel, fr)?;
             for word in 0..=greatest {
@@ -48,7 +49,7 @@ fn each_word_is_kept_at_its_length(rt: HostRuntime) -> Result<(), Fail> {
 // CR bit 5: the next frame comes behind one stop bit or behind two.
 #[test]
 fn cr_bit_5_makes_two_stop_bits(rt: HostRuntime) -> Result<(), Fail> {
-    for channel in CHANNELS {
+    for channel in ChannelId::BOTH {
         for (cr, stops) in [(0x0f, 1), (0x2f, 2)] {
             let mut bench = Bench::clocked(channel, 0xe0)?;
             bench.write(CR, cr)?;
@@ -146,7 +147,7 @@ fn acr_bit_1_sends_a_break(rt: HostRuntime) -> Result<(), Fail> {
 // CDR: only the word that equals it in every bit wakes the receiver.
 #[test]
 fn cdr_is_compared_bit_by_bit(rt: HostRuntime) -> Result<(), Fail> {
-    for channel in CHANNELS {
+    for channel in ChannelId::BOTH {
         let mut bench = Bench::clocked(channel, 0xe0)?;
         for address in 0..=255 {
             bench.write(CDR, address)?;

@@ -3,6 +3,7 @@ use crate::bench::*;
 use crate::script::Step::*;
 use crate::script::play_at;
 use std::test::*;
+use terms::channel_id::ChannelId;
 use terms::modem_line::ModemLine;
 
 #[test]
@@ -30,7 +31,7 @@ fn a_reset_leaves_the_transmitter_and_tdr(rt: HostRuntime) -> Result<(), Fail> {
 // A reset comes in each tick of a frame with $55, whose bits are low and high in turn.
 #[test]
 fn a_reset_leaves_a_frame_that_is_gathered(rt: HostRuntime) -> Result<(), Fail> {
-    for channel in CHANNELS {
+    for channel in ChannelId::BOTH {
         for place in 0..153 {
             let mut bench = Bench::clocked(channel, 0xe0)?;
             for tick in 0..152 {
@@ -108,7 +109,7 @@ fn a_reset_leaves_the_modem_levels_and_clears_their_changes(rt: HostRuntime) -> 
 // Six cycles to a tick, with a reset before each of them.
 #[test]
 fn a_reset_leaves_the_count(rt: HostRuntime) -> Result<(), Fail> {
-    for channel in CHANNELS {
+    for channel in ChannelId::BOTH {
         for place in 0..6 {
             let mut bench = Bench::new(channel);
             bench.write(CR, 0x0e)?;

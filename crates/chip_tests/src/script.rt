@@ -3,6 +3,7 @@
 use crate::bench::*;
 use std::process::Abort;
 use std::test::*;
+use terms::channel_id::ChannelId;
 use terms::modem_line::ModemLine;
 use terms::note::{ReadNote, WriteNote};
 use terms::register::Register;
@@ -110,7 +111,7 @@ pub(crate) fn play(rt: &impl Abort, bench: &mut Bench, steps: &[Step]) -> Result
 
 // Plays a script on each channel of a chip, with rate code 15 and the given FR.
 pub(crate) fn play_at(rt: &impl Abort, fr: u8, steps: &[Step]) -> Result<(), Fail> {
-    for channel in CHANNELS {
+    for channel in ChannelId::BOTH {
         let mut bench = Bench::clocked(channel, fr)?;
         play(rt, &mut bench, steps)?;
     }

@@ -3,6 +3,7 @@ use crate::bench::*;
 use crate::script::Step::*;
 use crate::script::play_at;
 use std::test::*;
+use terms::channel_id::ChannelId;
 use terms::modem_line::ModemLine;
 
 #[test]
@@ -288,7 +289,7 @@ fn csr_bit_6_is_tdre_with_a_resting_transmitter(rt: HostRuntime) -> Result<(), F
 
 #[test]
 fn csr_bits_1_and_0_are_those_of_fr(rt: HostRuntime) -> Result<(), Fail> {
-    for channel in CHANNELS {
+    for channel in ChannelId::BOTH {
         let mut bench = Bench::clocked(channel, 0xe0)?;
         for fr in 0x80..=0xff {
             bench.write(FR, fr)?;

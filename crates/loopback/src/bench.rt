@@ -25,8 +25,6 @@ use terms::modem_line::ModemLine;
 use terms::refusal::Refusal;
 use terms::report::{Report, ReportKind};
 
-const CHANNELS: [ChannelId; 2] = [ChannelId::One, ChannelId::Two];
-
 // The most cycles to wait for something.
 const PATIENCE: u32 = 10_000;
 
@@ -214,7 +212,7 @@ impl Bench {
 
     // A line for each IRQ that is not as it was told last.
     fn tell_irqs(&mut self, rt: &HostRuntime) -> io::Result<()> {
-        for channel in CHANNELS {
+        for channel in ChannelId::BOTH {
             self.log.tell_irq(rt, channel, self.board.irq(channel))?;
         }
         Ok(())
@@ -223,9 +221,9 @@ impl Bench {
     fn cycle(&mut self, rt: &HostRuntime) -> io::Result<ChipAnswer> {
         let answer = self.board.cycle();
         self.log.cycle = self.log.cycle.saturating_add(1);
-        for channel in CHANNELS {
-            self.log
-                .tell_report(rt, channel, answer.of(channel).report)?;
+        for channel in ChannelId::BOTH {
+            let report = answer.of(channel).report;
+            self.log.tell_report(rt, channel, report)?;
         }
         self.tell_irqs(rt)?;
         Ok(answer)
