@@ -2,8 +2,7 @@
 use Rattle.std.proofs.Common.{◌≡◌, Bool, false, List, ap, ◌∙◌}
 use Rattle.dacia.specs.declared.chip.Chip.{Chip}
 use Rattle.dacia.specs.declared.chip.Inputs.{Inputs}
-use Rattle.dacia.specs.declared.chip.ChipAnswer.{ChipAnswer}
-use Rattle.dacia.specs.Chip.{chip_cycled}
+use Rattle.dacia.specs.Chip.{ChipAnswer, chip_cycled}
 use Rattle.line.specs.Line.{leaves, held}
 use Rattle.board.specs.Board.{State, txd1, txd2, inputs, cycle_answer, after_cycle}
 

@@ -37,10 +37,10 @@ use Rattle.board.proofs.Directions.{link_of, Steady, cycle_link, cycle_steady, c
 -- one field of the channels after a change of the channel e
 kept : {A : Type 0} (g : Channel → A) (f : Channel → Channel) → ((c : Channel) → g (f c) ≡ g c) → (e ch : ChannelId) (c : Chip) →
     g (channel_of ch (with_channel e (f (channel_of e c)) c)) ≡ g (channel_of ch c)
-kept g f h One One c = h c.one
+kept g f h One One c = h c.channels.one
 kept g f h One Two c = refl
 kept g f h Two One c = refl
-kept g f h Two Two c = h c.two
+kept g f h Two Two c = h c.channels.two
 
 line_kept : (ch : ChannelId) (c : Chip) (t : State) → line_of ch (with_chip c t) ≡ line_of ch t
 line_kept One c t = refl
@@ -183,17 +183,17 @@ module _ (cr fr D : ℕ) (dv : divisor (rate_code cr) ≡ Some D) (d : ChannelId
 
   cts_levels : (ch e : ChannelId) (l : Bool) (w : Played) → Inv w →
       (channel_of ch (changed e (modem_changed Cts l) (did_modem e Cts l) w).board.chip).modem.cts.level ≡ cts_of ch (did_modem e Cts l ∷ w.past)
-  cts_levels One One l w i = input_level l w.board.chip.one.modem.cts
+  cts_levels One One l w i = input_level l w.board.chip.channels.one.modem.cts
   cts_levels One Two l w i = i.level One
   cts_levels Two One l w i = i.level Two
-  cts_levels Two Two l w i = input_level l w.board.chip.two.modem.cts
+  cts_levels Two Two l w i = input_level l w.board.chip.channels.two.modem.cts
 
   cts_links : (ch e : ChannelId) (l : Bool) (w : Played) → Inv w →
       LinkInv (format_of cr fr) (d ch) D (link_of ch (changed e (modem_changed Cts l) (did_modem e Cts l) w).board) (past_of ch (did_modem e Cts l ∷ w.past))
-  cts_links One One l w i = cts_inv (format_of cr fr) (d One) D (link_of One w.board) (past_of One w.past) (input_set l w.board.chip.one.modem.cts).level (i.links One)
+  cts_links One One l w i = cts_inv (format_of cr fr) (d One) D (link_of One w.board) (past_of One w.past) (input_set l w.board.chip.channels.one.modem.cts).level (i.links One)
   cts_links One Two l w i = i.links One
   cts_links Two One l w i = i.links Two
-  cts_links Two Two l w i = cts_inv (format_of cr fr) (d Two) D (link_of Two w.board) (past_of Two w.past) (input_set l w.board.chip.two.modem.cts).level (i.links Two)
+  cts_links Two Two l w i = cts_inv (format_of cr fr) (d Two) D (link_of Two w.board) (past_of Two w.past) (input_set l w.board.chip.channels.two.modem.cts).level (i.links Two)
 
   cts_inv_at : (e : ChannelId) (l : Bool) (w : Played) → Inv w → Inv (changed e (modem_changed Cts l) (did_modem e Cts l) w)
   cts_inv_at e l w i = record {

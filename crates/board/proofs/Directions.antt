@@ -84,10 +84,10 @@ module _ (cr fr D : ℕ) (dv : divisor (rate_code cr) ≡ Some D) where
       ◌≡◌ {A = Option Report × Link} ((answer_of (far ch) (cycle_answer t)).report, link_of ch (after_cycle t)) (link_cycle (format_of cr fr) D (link_of ch t))
   unfolding cycle_answer after_cycle
   cycle_link t s One =
-      link_turned (format_of cr fr) t.a t.chip.one _ t.chip.two _ (inputs t).rxd1 _ _ (ltb (t.chip.one.count + 1) D)
+      link_turned (format_of cr fr) t.a t.chip.channels.one _ t.chip.channels.two _ (inputs t).rxd1 _ _ (ltb (t.chip.channels.one.count + 1) D)
       (near_turned t s One (inputs t).rxd1) (far_turned t s One (inputs t).rxd2)
   cycle_link t s Two =
-      link_turned (format_of cr fr) t.b t.chip.two _ t.chip.one _ (inputs t).rxd2 _ _ (ltb (t.chip.two.count + 1) D)
+      link_turned (format_of cr fr) t.b t.chip.channels.two _ t.chip.channels.one _ (inputs t).rxd2 _ _ (ltb (t.chip.channels.two.count + 1) D)
       (near_turned t s Two (inputs t).rxd2) (far_turned t s Two (inputs t).rxd1)
 
   -- and leaves the channels steady
@@ -99,8 +99,8 @@ module _ (cr fr D : ℕ) (dv : divisor (rate_code cr) ≡ Some D) where
   cycle_steady t s =
       let one = near_turned t s One (inputs t).rxd1 in
       let two = far_turned t s One (inputs t).rxd2 in
-      let e : (cycled (inputs t).rxd2 false false t.chip.two).1.count ≡ (cycled (inputs t).rxd1 false false t.chip.one).1.count =
-      two.count ∙ counts (ltb (t.chip.one.count + 1) D) t.chip.two.count t.chip.one.count (s.together One) ∙ sym one.count in
+      let e : (cycled (inputs t).rxd2 false false t.chip.channels.two).1.count ≡ (cycled (inputs t).rxd1 false false t.chip.channels.one).1.count =
+      two.count ∙ counts (ltb (t.chip.channels.one.count + 1) D) t.chip.channels.two.count t.chip.channels.one.count (s.together One) ∙ sym one.count in
       record {
         control = both (λ ch. (channel_of ch (after_cycle t).chip).control ≡ settings cr fr) (one.control ∙ s.control One) (two.control ∙ s.control Two);
         together = both (λ ch. (channel_of (far ch) (after_cycle t).chip).count ≡ (channel_of ch (after_cycle t).chip).count) e (sym e);

@@ -4,8 +4,7 @@ use Rattle.terms.specs.declared.channel_id.ChannelId.{ChannelId}
 use Rattle.terms.specs.declared.channel_id.ChannelId.TheVariants.{One, Two}
 use Rattle.terms.specs.declared.report.Report.{Report}
 use Rattle.terms.specs.declared.report.ReportKind.{ReportKind}
-use Rattle.dacia.specs.declared.chip.ChipAnswer.{ChipAnswer}
-use Rattle.dacia.specs.Chip.{answer_of}
+use Rattle.dacia.specs.Chip.{ChipAnswer, answer_of}
 use Rattle.dacia.specs.Separation.{same}
 use Rattle.link.specs.Past.{words_of}
 use Rattle.board.specs.declared.record.Record.{Record}

@@ -4,7 +4,7 @@ use Rattle.std.proofs.lemmas.List.{set_at, drop_more, length_push}
 use Rattle.terms.specs.declared.channel_id.ChannelId.{ChannelId}
 use Rattle.terms.specs.declared.channel_id.ChannelId.TheVariants.{One, Two}
 use Rattle.terms.specs.declared.report.Report.{Report}
-use Rattle.dacia.specs.declared.chip.ChipAnswer.{ChipAnswer}
+use Rattle.dacia.specs.Chip.{ChipAnswer}
 use Rattle.board.specs.declared.record.Record.{Record}
 use Rattle.board.specs.Record.{entry, placed}
 use Rattle.board.specs.Board.{State, cycle_answer, after_cycle}

@@ -7,8 +7,7 @@ use Rattle.channel.specs.Control.{rate_code}
 use Rattle.channel.specs.Channel.{txd_of}
 use Rattle.dacia.specs.declared.chip.Chip.{Chip}
 use Rattle.dacia.specs.declared.chip.Inputs.{Inputs}
-use Rattle.dacia.specs.declared.chip.ChipAnswer.{ChipAnswer}
-use Rattle.dacia.specs.Chip.{newly_reset, chip_cycled, after_read_once, after_write_once}
+use Rattle.dacia.specs.Chip.{ChipAnswer, newly_reset, chip_cycled, after_read_once, after_write_once}
 use Rattle.line.specs.Line.{leaves, held, all_high}
 
 -- what a board stands for: its chip, and the levels that its lines hold
@@ -22,10 +21,10 @@ with_chip c s = record s { chip = c }
 
 -- the levels of TxD, which the lines are given
 abbrev pub txd1 : State → Bool
-txd1 s = txd_of s.chip.one
+txd1 s = txd_of s.chip.channels.one
 
 abbrev pub txd2 : State → Bool
-txd2 s = txd_of s.chip.two
+txd2 s = txd_of s.chip.channels.two
 
 -- the answers of the lines are the levels of RxD; no cycle of a board is marked RxC or TxC
 abbrev pub inputs : State → Inputs

@@ -6,9 +6,8 @@ use Rattle.terms.specs.declared.note.Reading.{Reading}
 use Rattle.terms.specs.declared.note.WriteNote.{WriteNote}
 use Rattle.terms.specs.declared.refusal.Refusal.{Refusal}
 use Rattle.terms.specs.declared.register.Register.TheVariants.{Interrupt, Data}
-use Rattle.dacia.specs.declared.chip.ChipAnswer.{ChipAnswer}
 use Rattle.dacia.specs.Access.{select_at}
-use Rattle.dacia.specs.Chip.{read_once, after_read_once, write_once, after_write_once, modem_on}
+use Rattle.dacia.specs.Chip.{ChipAnswer, read_once, after_read_once, write_once, after_write_once, modem_on}
 use Rattle.board.specs.declared.record.Record.{Record}
 use Rattle.board.specs.Board.{State, with_chip, cycle_answer, after_cycle}
 use Rattle.board.specs.Sweep.{Order, cycles, written, sweep_by}

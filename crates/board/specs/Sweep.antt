@@ -2,7 +2,7 @@
 use Rattle.std.specs.Prelude.{◌≡◌, ℕ, zero, suc, ◌+◌, ◌*◌, Bool, cond, ◌||◌, List, [], ◌++◌, length, drop, Ok, Err, Result, ◌==◌, nat_lt}
 use Rattle.terms.specs.declared.channel_id.ChannelId.TheVariants.{One, Two}
 use Rattle.terms.specs.declared.refusal.Refusal.{Refusal}
-use Rattle.dacia.specs.declared.chip.ChipAnswer.{ChipAnswer}
+use Rattle.dacia.specs.Chip.{ChipAnswer}
 use Rattle.board.specs.declared.record.Record.{Record}
 use Rattle.board.specs.Record.{entry, placed}
 use Rattle.board.specs.Board.{State, cycle_answer, after_cycle}

@@ -178,7 +178,7 @@ pub(crate) fn cycle_of(
         ChannelId::One => (own, other),
         ChannelId::Two => (other, own),
     };
-    chip.cycle(Inputs { rxd1, rxd2, marks }).of(channel)
+    *chip.cycle(Inputs { rxd1, rxd2, marks }).at(channel)
 }
 
 #[derive(Drop)]

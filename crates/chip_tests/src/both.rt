@@ -41,7 +41,7 @@ fn a_word_crosses_a_wire_in_924_cycles(rt: HostRuntime) -> Result<(), Fail> {
         let answer = wired_cycle(&mut chip);
         for (channel, word) in [(ChannelId::One, 0x42), (ChannelId::Two, 0x41)] {
             let due = if cycle == 924 { kept(word) } else { None };
-            assert_eq!(rt; answer.of(channel).report, due, "{}", cycle);
+            assert_eq!(rt; answer.at(channel).report, due, "{}", cycle);
         }
     }
     assert_eq!(rt; chip.read(3)?.byte, 0x42);
@@ -177,7 +177,7 @@ fn a_cycle_answers_the_levels_that_it_leaves(rt: HostRuntime) -> Result<(), Fail
         };
         let answer = chip.cycle(inputs);
         for channel in ChannelId::BOTH {
-            let ChannelAnswer { txd, irq, .. } = answer.of(channel);
+            let ChannelAnswer { txd, irq, .. } = *answer.at(channel);
             assert_eq!(rt; txd, chip.txd(channel), "{}", cycle);
             assert_eq!(rt; irq, chip.irq(channel), "{}", cycle);
         }

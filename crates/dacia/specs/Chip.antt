@@ -1,49 +1,42 @@
 -- The chip: two channels, and what each call answers and leaves.
 use Rattle.std.specs.Prelude.{ℕ, Bool, Option, Ok, Err, Result}
-use Rattle.std.specs.Borrow.{Lends, MutBor, Fml}
 use Rattle.terms.specs.declared.channel_id.ChannelId.{ChannelId}
-use Rattle.terms.specs.declared.channel_id.ChannelId.TheVariants.{One, Two}
+use Rattle.terms.specs.declared.channels.Channels.{Channels}
+use Rattle.terms.specs.Channels.{value_of, with_value}
 use Rattle.terms.specs.declared.modem_line.ModemLine.{ModemLine}
 use Rattle.terms.specs.declared.note.Reading.{Reading}
 use Rattle.terms.specs.declared.note.WriteNote.{WriteNote}
 use Rattle.terms.specs.declared.refusal.Refusal.{Refusal}
 use Rattle.channel.specs.declared.channel.Channel.{Channel}
 use Rattle.channel.specs.declared.channel.ChannelAnswer.{ChannelAnswer}
-use Rattle.channel.specs.contracts.channel.Channel.{the_row as channel_row}
 use Rattle.channel.specs.Channel.{powered_on, after_reset, modem_changed}
 use Rattle.channel.specs.Calls.{read_answer, after_read, write_answer, after_write, cycled}
 use Rattle.dacia.specs.declared.chip.PoweredChip.{PoweredChip}
 use Rattle.dacia.specs.declared.chip.Chip.{Chip}
 use Rattle.dacia.specs.declared.chip.Inputs.{Inputs}
-use Rattle.dacia.specs.declared.chip.ChipAnswer.{ChipAnswer}
-use Rattle.dacia.specs.contracts.chip.Chip.{the_row}
 use Rattle.dacia.specs.Access.{ReadAccess, WriteAccess, read_opened, write_opened}
 
 abbrev pub channel_of : ChannelId → Chip → Channel
-channel_of One c = c.one
-channel_of Two c = c.two
+channel_of ch c = value_of ch c.channels
 
 abbrev pub with_channel : ChannelId → Channel → Chip → Chip
-with_channel One x c = record c { one = x }
-with_channel Two x c = record c { two = x }
+with_channel ch x c = record c { channels = with_value ch c.channels x }
 
--- c ends with its channel ch as it is left behind r
-abbrev pub LendsChannel : ChannelId → MutBor Chip → MutBor Channel → Fml
-LendsChannel ch c r = Lends the_row channel_row c r (λ x. with_channel ch x c.now)
+-- what the chip answers to a cycle, and the part of it that is a channel's
+abbrev pub ChipAnswer : Type 0
+ChipAnswer = Channels ChannelAnswer
 
--- the part of a cycle's answer that is a channel's
 abbrev pub answer_of : ChannelId → ChipAnswer → ChannelAnswer
-answer_of One a = a.one
-answer_of Two a = a.two
+answer_of ch a = value_of ch a
 
 abbrev pub powered_chip : PoweredChip
-powered_chip = record { one = powered_on; two = powered_on }
+powered_chip = record { channels = record { one = powered_on; two = powered_on } }
 
 abbrev pub chip_reset : Chip → Chip
-chip_reset c = record { one = after_reset c.one; two = after_reset c.two }
+chip_reset c = record { channels = record { one = after_reset c.channels.one; two = after_reset c.channels.two } }
 
 abbrev pub first_reset : PoweredChip → Chip
-first_reset p = chip_reset (record { one = p.one; two = p.two })
+first_reset p = chip_reset (record { channels = p.channels })
 
 -- a chip at power on that took one reset
 abbrev pub newly_reset : Chip
@@ -97,6 +90,6 @@ modem_on ch line l c = with_channel ch (modem_changed line l (channel_of ch c)) 
 -- a cycle: each channel has its RxD, and both have RxC and TxC
 abbrev pub chip_cycled : Inputs → Chip → ChipAnswer × Chip
 chip_cycled i c =
-    let one = cycled i.rxd1 i.marks.rxc i.marks.txc c.one in
-    let two = cycled i.rxd2 i.marks.rxc i.marks.txc c.two in
-    (record { one = one.0; two = two.0 }, record { one = one.1; two = two.1 })
+    let one = cycled i.rxd1 i.marks.rxc i.marks.txc c.channels.one in
+    let two = cycled i.rxd2 i.marks.rxc i.marks.txc c.channels.two in
+    (record { one = one.0; two = two.0 }, record { channels = record { one = one.1; two = two.1 } })

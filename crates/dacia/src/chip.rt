@@ -3,14 +3,14 @@ ghost use Rattle.std.specs.Prelude.{◌≡◌};
 ghost use Rattle.terms.specs.Refusal.{refused_by};
 ghost use Rattle.channel.specs.Channel.{txd_of, irq_of};
 ghost use Rattle.dacia.specs.Access.{opens_by, reads_by, read_by};
-ghost use Rattle.dacia.specs.Chip.{channel_of, LendsChannel, answer_of, powered_chip, first_reset, chip_reset, read_ended, after_read_ended, write_ended, after_write_ended, modem_on, chip_cycled, read_once, after_read_once, write_once, after_write_once};
+ghost use Rattle.dacia.specs.Chip.{channel_of, powered_chip, first_reset, chip_reset, read_ended, after_read_ended, write_ended, after_write_ended, modem_on, chip_cycled, read_once, after_read_once, write_once, after_write_once};
 ghost use Rattle.dacia.specs.Separation.{Separated};
-ghost use Rattle.std.specs.Borrow.{sem};
 
 use crate::access::{Access, ReadAccess, WriteAccess};
 use channel::channel::{Channel, ChannelAnswer, Marks};
 use std::marker::PhantomData;
 use terms::channel_id::ChannelId;
+use terms::channels::Channels;
 use terms::modem_line::ModemLine;
 use terms::note::{Reading, WriteNote};
 use terms::refusal::Refusal;
@@ -18,15 +18,13 @@ use terms::refusal::Refusal;
 // A chip at power on: it allows only a reset. It is a type of its own, so that a register read before the reset does not compile.
 #[derive(Drop)]
 pub struct PoweredChip {
-    one: Channel,
-    two: Channel,
+    channels: Channels<Channel>,
 }
 
 // A chip that was reset.
 #[derive(Drop)]
 pub struct Chip {
-    one: Channel,
-    two: Channel,
+    channels: Channels<Channel>,
 }
 
 // The input levels of a cycle, and its marks.
@@ -38,31 +36,17 @@ pub struct Inputs {
 }
 
 // What the chip answers to a cycle.
-#[derive(Clone, Copy, PartialEq, Eq, Debug)]
-pub struct ChipAnswer {
-    pub one: ChannelAnswer,
-    pub two: ChannelAnswer,
-}
-
-impl ChipAnswer {
-    // The part of it that is a channel's.
-    pub fn of(self, channel: ChannelId) -> ChannelAnswer
-        ensures { result ≡ answer_of channel self }
-    {
-        match channel {
-            ChannelId::One => self.one,
-            ChannelId::Two => self.two,
-        }
-    }
-}
+pub type ChipAnswer = Channels<ChannelAnswer>;
 
 impl PoweredChip {
     pub fn power_on() -> PoweredChip
         ensures { result ≡ powered_chip }
     {
         PoweredChip {
-            one: Channel::power_on(),
-            two: Channel::power_on(),
+            channels: Channels {
+                one: Channel::power_on(),
+                two: Channel::power_on(),
+            },
         }
     }
 
@@ -71,38 +55,19 @@ impl PoweredChip {
         ensures is { result ≡ first_reset self }
         ensures separation { Separated result }
     {
-        let PoweredChip { one, two } = self;
-        let mut chip = Chip { one, two };
+        let PoweredChip { channels } = self;
+        let mut chip = Chip { channels };
         chip.reset();
         chip
     }
 }
 
 impl Chip {
-    fn channel(&self, channel: ChannelId) -> &Channel
-        ensures { result.now ≡ channel_of channel self.now }
-    {
-        match channel {
-            ChannelId::One => &self.one,
-            ChannelId::Two => &self.two,
-        }
-    }
-
-    fn channel_mut(&mut self, channel: ChannelId) -> &mut Channel
-        ensures* writes_back { sem 𝓛 (LendsChannel channel self.entry result) }
-        ensures value { result.now ≡ channel_of channel self.old }
-    {
-        match channel {
-            ChannelId::One => &mut self.one,
-            ChannelId::Two => &mut self.two,
-        }
-    }
-
     pub fn reset(&mut self)
         ensures { self.new ≡ chip_reset self.old }
     {
-        self.one.reset();
-        self.two.reset();
+        self.channels.one.reset();
+        self.channels.two.reset();
     }
 
     // Ends a read: it works now, on this chip.
@@ -115,7 +80,7 @@ impl Chip {
             place,
             kind: PhantomData,
         } = access;
-        self.channel_mut(place.channel).read(place.register)
+        self.channels.at_mut(place.channel).read(place.register)
     }
 
     // Ends a write, with the byte to write: it works now, on this chip.
@@ -127,7 +92,8 @@ impl Chip {
             place,
             kind: PhantomData,
         } = access;
-        self.channel_mut(place.channel).write(place.register, byte)
+        let channel = self.channels.at_mut(place.channel);
+        channel.write(place.register, byte)
     }
 
     // A read that is opened and ended with nothing between.
@@ -154,15 +120,15 @@ impl Chip {
     pub fn set_modem(&mut self, channel: ChannelId, line: ModemLine, level: bool)
         ensures { self.new ≡ modem_on channel line level self.old }
     {
-        self.channel_mut(channel).set_modem(line, level);
+        self.channels.at_mut(channel).set_modem(line, level);
     }
 
     // One cycle of both channels.
     pub fn cycle(&mut self, inputs: Inputs) -> ChipAnswer
         ensures { (result, self.new) ≡ chip_cycled inputs self.old }
     {
-        let one = self.one.cycle(inputs.rxd1, inputs.marks);
-        let two = self.two.cycle(inputs.rxd2, inputs.marks);
+        let one = self.channels.one.cycle(inputs.rxd1, inputs.marks);
+        let two = self.channels.two.cycle(inputs.rxd2, inputs.marks);
         ChipAnswer { one, two }
     }
 
@@ -170,13 +136,13 @@ impl Chip {
     pub fn txd(&self, channel: ChannelId) -> bool
         ensures { result ≡ txd_of (channel_of channel self.now) }
     {
-        self.channel(channel).txd()
+        self.channels.at(channel).txd()
     }
 
     // The level of an IRQ pin.
     pub fn irq(&self, channel: ChannelId) -> bool
         ensures { result ≡ irq_of (channel_of channel self.now) }
     {
-        self.channel(channel).irq()
+        self.channels.at(channel).irq()
     }
 }

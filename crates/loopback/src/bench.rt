@@ -1,10 +1,9 @@
 // A board on the bench: it is done to as a step says, and each thing that happens is told in a line.
 ghost use Rattle.std.specs.Prelude.{◌≡◌, true, Ok, IfOk};
-ghost use Rattle.std.specs.Borrow.{sem};
 ghost use Rattle.terms.specs.Refusal.{refused_by};
 ghost use Rattle.dacia.specs.Access.{place_at, read_opened, opens_by};
 ghost use Rattle.terms.specs.declared.channel_id.ChannelId.TheVariants.{One, Two};
-ghost use Rattle.loopback.specs.Bench.{LendsTold, other, told_of};
+ghost use Rattle.loopback.specs.Bench.{other};
 ghost use Rattle.loopback.specs.Tally.{no_counts, report_to};
 
 use crate::names::{Level, Name, Note, Shown, Word};
@@ -21,6 +20,7 @@ use line::wire::Wire;
 use std::alloc::Global;
 use std::io;
 use terms::channel_id::ChannelId;
+use terms::channels::Channels;
 use terms::modem_line::ModemLine;
 use terms::refusal::Refusal;
 use terms::report::{Report, ReportKind};
@@ -66,8 +66,7 @@ pub(crate) struct Bench {
 #[derive(Drop)]
 struct Log {
     cycle: u32,
-    one: Told,
-    two: Told,
+    told: Channels<Told>,
 }
 
 // What was told of a channel: the level of its IRQ, and what became of the words that it sends.
@@ -86,8 +85,10 @@ impl Bench {
             records: vec![in rt.alloc(); BLANK; ROOM]?,
             log: Log {
                 cycle: 0,
-                one: Told::new(rt.alloc()),
-                two: Told::new(rt.alloc()),
+                told: Channels {
+                    one: Told::new(rt.alloc()),
+                    two: Told::new(rt.alloc()),
+                },
             },
         })
     }
@@ -143,7 +144,7 @@ impl Bench {
         why: &str,
     ) -> anyhow::Result<()> {
         let note = self.board.write(name.select(channel), byte)?;
-        self.log.told_mut(channel).sent.count_write(note);
+        self.log.told.at_mut(channel).sent.count_write(note);
         println!(rt;
             "{:>5}  write {name}{} {}, note {}: {why}",
             self.log.cycle,
@@ -156,7 +157,11 @@ impl Bench {
 
     fn read(&mut self, rt: &HostRuntime, channel: ChannelId, name: Name) -> anyhow::Result<()> {
         let reading = self.board.read(name.select(channel))?;
-        self.log.told_mut(other(channel)).sent.count_read(reading)?;
+        self.log
+            .told
+            .at_mut(other(channel))
+            .sent
+            .count_read(reading)?;
         let byte = reading.byte;
         println!(rt;
             "{:>5}  read {name}{}: {}, note {}",
@@ -222,7 +227,7 @@ impl Bench {
         let answer = self.board.cycle();
         self.log.cycle = self.log.cycle.saturating_add(1);
         for channel in ChannelId::BOTH {
-            let report = answer.of(channel).report;
+            let report = answer.at(channel).report;
             self.log.tell_report(rt, channel, report)?;
         }
         self.tell_irqs(rt)?;
@@ -249,7 +254,7 @@ impl Bench {
     {
         for _ in 0..PATIENCE {
             let answer = self.cycle(rt)?;
-            if due(answer.of(channel)) {
+            if due(*answer.at(channel)) {
                 return Ok(());
             }
         }
@@ -285,8 +290,11 @@ impl Bench {
 
     pub(crate) fn summary(&self, rt: &HostRuntime) -> io::Result<()> {
         println!(rt; "After {} cycles:", self.log.cycle)?;
-        self.log.one.sent.tell(rt, ChannelId::One, ChannelId::Two)?;
-        self.log.two.sent.tell(rt, ChannelId::Two, ChannelId::One)
+        for from in ChannelId::BOTH {
+            let told = self.log.told.at(from);
+            told.sent.tell(rt, from, other(from))?;
+        }
+        Ok(())
     }
 }
 
@@ -304,18 +312,8 @@ impl Told {
 }
 
 impl Log {
-    fn told_mut(&mut self, channel: ChannelId) -> &mut Told
-        ensures* writes_back { sem 𝓛 (LendsTold channel self.entry result) }
-        ensures value { result.now ≡ told_of channel self.old }
-    {
-        match channel {
-            ChannelId::One => &mut self.one,
-            ChannelId::Two => &mut self.two,
-        }
-    }
-
     fn tell_irq(&mut self, rt: &HostRuntime, channel: ChannelId, irq: bool) -> io::Result<()> {
-        let told = self.told_mut(channel);
+        let told = self.told.at_mut(channel);
         if told.irq == irq {
             return Ok(());
         }
@@ -335,10 +333,10 @@ impl Log {
 
     // A report of channel 2 is of a word from channel 1, and the other way round.
     fn count_report(&mut self, channel: ChannelId, kind: ReportKind)
-        ensures one { self.new.one.sent.counts ≡ report_to Two channel kind self.old.one.sent.counts }
-        ensures two { self.new.two.sent.counts ≡ report_to One channel kind self.old.two.sent.counts }
+        ensures one { self.new.told.one.sent.counts ≡ report_to Two channel kind self.old.told.one.sent.counts }
+        ensures two { self.new.told.two.sent.counts ≡ report_to One channel kind self.old.told.two.sent.counts }
     {
-        self.told_mut(other(channel)).sent.count_report(kind);
+        self.told.at_mut(other(channel)).sent.count_report(kind);
     }
 
     fn tell_report(

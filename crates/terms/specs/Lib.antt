@@ -1,4 +1,5 @@
 pub mod ChannelId
+pub mod Channels
 pub mod Register
 pub mod ModemLine
 pub mod Note

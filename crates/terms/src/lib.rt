@@ -4,6 +4,7 @@
 #![tactic(auto)]
 
 pub mod channel_id;
+pub mod channels;
 pub mod modem_line;
 pub mod note;
 pub mod refusal;

@@ -1,10 +1,10 @@
 // What the models answer and show, as it is compared and printed. A reset and a modem level answer nothing.
 
-use crate::channels::Channels;
 use board::record::Record;
 use channel::channel::ChannelAnswer;
 use std::fmt;
 use terms::channel_id::ChannelId;
+use terms::channels::Channels;
 use terms::note::{Reading, WriteNote};
 use terms::refusal::Refusal;
 use terms::report::Report;

@@ -1,12 +1,12 @@
 // The calls of a history, and how they are printed.
 
 use crate::answer::level;
-use crate::channels::Channels;
 use crate::random::mixed;
 use channel::channel::Marks;
 use dacia::chip::Inputs;
 use std::fmt;
 use terms::channel_id::ChannelId;
+use terms::channels::Channels;
 use terms::modem_line::ModemLine;
 
 // The level of an RxD input over the cycles of a run.

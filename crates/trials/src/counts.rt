@@ -2,12 +2,12 @@
 
 use crate::answer::Answer;
 use crate::call::Call;
-use crate::channels::Channels;
 use crate::counted::{CHANGES, EVENTS, Event};
 use crate::state::{State, Step};
 use dacia::access::Place;
 use std::alloc::{AllocError, Global};
 use terms::channel_id::ChannelId;
+use terms::channels::Channels;
 use terms::register::Register;
 use terms::report::{Report, ReportKind};
 

@@ -1,7 +1,7 @@
 // The first model as it is played on. Its chip and its board have no trait in common, so that each passes on its own calls.
 
 use crate::answer::Levels;
-use crate::channels::Channels;
+use crate::channels::each;
 use crate::played::{First, Played};
 use board::board::Board;
 use board::record::Record;
@@ -35,8 +35,8 @@ impl Played for Chip {
 
     fn levels(&self) -> Levels {
         Levels {
-            irq: Channels::each(|channel| self.irq(channel)),
-            txd: Some(Channels::each(|channel| self.txd(channel))),
+            irq: each(|channel| self.irq(channel)),
+            txd: Some(each(|channel| self.txd(channel))),
         }
     }
 
@@ -76,7 +76,7 @@ impl<A: Line, B: Line> Played for Board<A, B> {
 
     fn levels(&self) -> Levels {
         Levels {
-            irq: Channels::each(|channel| self.irq(channel)),
+            irq: each(|channel| self.irq(channel)),
             txd: None,
         }
     }

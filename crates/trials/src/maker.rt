@@ -1,12 +1,12 @@
 // Makes random histories that reach the rare rules: it keeps in mind what it wrote to CR, FR and CDR, to send fitting frames.
 
 use crate::call::{Call, Held, MarkedCycles, Signal, Stretch};
-use crate::channels::Channels;
 use crate::history::{Cable, Device, History, Kind};
 use crate::random::Random;
 use dacia::access::Place;
 use std::alloc::{AllocError, Global};
 use terms::channel_id::ChannelId;
+use terms::channels::Channels;
 use terms::modem_line::ModemLine;
 use terms::register::Register;
 

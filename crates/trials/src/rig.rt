@@ -2,7 +2,7 @@
 
 use crate::answer::Answer;
 use crate::call::{Call, Held, Stretch};
-use crate::channels::Channels;
+use crate::channels::each;
 use crate::counted::Event;
 use crate::counts::Counts;
 use crate::played::{First, Second};
@@ -16,6 +16,7 @@ use second_model::Chip;
 use std::alloc::Global;
 use std::mem;
 use terms::channel_id::ChannelId;
+use terms::channels::Channels;
 use terms::report::Report;
 
 #[derive(Drop)]
@@ -36,7 +37,7 @@ fn state(chip: &Chip, channel: ChannelId) -> State {
 }
 
 fn states(chip: &Chip) -> Channels<State> {
-    Channels::each(|channel| state(chip, channel))
+    each(|channel| state(chip, channel))
 }
 
 impl<'a, F: First, S: Second> Rig<'a, F, S> {
@@ -112,7 +113,7 @@ impl<'a, F: First, S: Second> Rig<'a, F, S> {
         self.same_levels()?;
         let is = states(self.second.chip());
         let was = mem::replace(&mut self.states, is);
-        let steps = Channels::each(|channel| Step {
+        let steps = each(|channel| Step {
             was: *was.at(channel),
             is: *is.at(channel),
         });
@@ -172,11 +173,11 @@ impl<'a, F: First, S: Second> Rig<'a, F, S> {
         for channel in ChannelId::BOTH {
             let told = |answer| Answer::Cycle(channel, answer);
             self.place
-                .same(told, first.of(channel), second.of(channel))?;
+                .same(told, *first.at(channel), *second.at(channel))?;
         }
         self.same_levels()?;
         for channel in ChannelId::BOTH {
-            self.look(channel, first.of(channel).report);
+            self.look(channel, first.at(channel).report);
         }
         self.counts.made(F::ALONE);
         Ok(())

@@ -1,7 +1,7 @@
 // The second model as it is played on: its answers in the words of the first.
 
 use crate::answer::Levels;
-use crate::channels::Channels;
+use crate::channels::each;
 use crate::played::{Played, Second};
 use board::record::Record;
 use channel::channel::ChannelAnswer;
@@ -11,6 +11,7 @@ use second_model::{
 };
 use std::alloc::{AllocError, Global};
 use terms::channel_id::ChannelId;
+use terms::channels::Channels;
 use terms::modem_line::ModemLine;
 use terms::note::{ReadNote, Reading, WriteNote};
 use terms::refusal::Refusal;
@@ -124,12 +125,12 @@ impl Second for Board {
 
 // The levels of IRQ.
 fn irq(chip: &Chip) -> Channels<bool> {
-    Channels::each(|channel| chip.irq(side(channel)))
+    each(|channel| chip.irq(side(channel)))
 }
 
 // The levels of TxD.
 pub(crate) fn txd(chip: &Chip) -> Channels<bool> {
-    Channels::each(|channel| chip.txd(side(channel)))
+    each(|channel| chip.txd(side(channel)))
 }
 
 // The rest turns words of the one model into words of the other: by functions and not by `From`, since all these types
