@@ -8,7 +8,7 @@ use Rattle.script_words.specs.declared.command.Placed.{Placed}
 use Rattle.script_words.specs.declared.fault.Fault.{Fault}
 use Rattle.script_lines.specs.declared.token.Token.{Token}
 use Rattle.script_words.specs.declared.word.Word.{Word}
-use Rattle.script_words.specs.Format.{Spot, only, Value, Rest, begins, ends, next, Letter, R, W, C, L, S, letter, after, fits, misfits, says, goes_on, misfit_at, first_line, placed, before, read}
+use Rattle.script_words.specs.Format.{Spot, only, Value, Rest, begins, ends, next, Letter, R, W, C, L, S, letter, after, fits, misfits, says, goes_on, at_place, misfit_at, first_line, placed, before, read}
 use Rattle.script.proofs.Steps.{stepped}
 use Rattle.script_lines.specs.Token.{word_of, letter_of, width, Piece, piece_of, first_piece, token_says}
 use Rattle.script_words.specs.Word.{and_then, line_at, first_line_at}
@@ -116,7 +116,7 @@ pub record Begins (t : Token) (bs : List ℕ) (l : ℕ) : Type 0 where
   pub column : (word_of t).column ≡ 1
 
 abbrev piece_at : List ℕ → ℕ → Letter → Piece
-piece_at bs l k = record { letter = k; bytes = take (width k) bs; line = l; column = 1 }
+piece_at bs l k = record { letter = k; bytes = take (width k) bs; position = at_place l 1 }
 
 begun : (t : Token) (x : ℕ) (xs : List ℕ) (l : ℕ) (k : Letter) → letter x ≡ Some k → piece_of t ≡ piece_at (x ∷ xs) l k → Begins t (x ∷ xs) l
 begun t x xs l k has same = record {
@@ -125,8 +125,8 @@ begun t x xs l k has same = record {
   parts = refl;
   lettered = has ∙ ap Some (sym (ap (λ (p : Piece). p.letter) same));
   bytes = ap (λ (p : Piece). p.bytes) same ∙ ap (λ j. take (width j) (x ∷ xs)) (sym (ap (λ (p : Piece). p.letter) same));
-  line = ap (λ (p : Piece). p.line) same;
-  column = ap (λ (p : Piece). p.column) same;
+  line = ap (λ (p : Piece). p.position.line) same;
+  column = ap (λ (p : Piece). p.position.column) same;
 }
 
 pub begins_with : (t : Token) (bs : List ℕ) (l : ℕ) → Ok (piece_of t) ≡ first_piece bs l → Begins t bs l

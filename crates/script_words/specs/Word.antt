@@ -3,10 +3,15 @@ use Rattle.std.specs.Prelude.{◌≡◌, ℕ, suc, ◌+◌, ◌*◌, false, List
 use Rattle.std.specs.List.{slice_get}
 use Rattle.std.specs.Option.{ok_or}
 use Rattle.std.specs.Result.{MatchResult}
+use Rattle.script_words.specs.declared.position.Position.{Position}
 use Rattle.script_words.specs.declared.command.Command.{Command}
 use Rattle.script_words.specs.declared.fault.Fault.{Fault}
 use Rattle.script_words.specs.declared.word.Word.{Word}
-use Rattle.script_words.specs.Format.{Spot, only, hex_digit, Value, Rest, begins, ends, next, first_line, fits, digit_value, within, misfit_at}
+use Rattle.script_words.specs.Format.{Spot, only, hex_digit, Value, Rest, begins, ends, next, first_line, fits, digit_value, within, at_place, misfit_at}
+
+-- where the byte i of a word stands
+abbrev pub position_at : Word → ℕ → Position
+position_at w i = at_place w.line (w.column + i)
 
 -- the byte i of a word
 abbrev pub any_at : Word → ℕ → Result ℕ Fault

@@ -1,13 +1,15 @@
 // A part of the script, with the place of its first byte.
 ghost use Rattle.std.specs.Prelude.{◌≡◌, ◌+◌, ◌<◌, ◌≤◌, length, take, IfOk, OnOk};
 ghost use Rattle.script_words.specs.Format.{only, select_digit, channel_digit, line_letter, level_digit, digit_value, misfit_at};
-ghost use Rattle.script_words.specs.Word.{any_at, spot_at, digit_at, StandsAt};
+ghost use Rattle.script_words.specs.Word.{position_at, any_at, spot_at, digit_at, StandsAt};
 
 use crate::fault::Fault;
+use crate::position::Position;
 use crate::refusal::ScriptRefusal;
 use terms::channel_id::ChannelId;
 use terms::modem_line::ModemLine;
 
+// Line and column apart, and no `Position`: the column is narrower, so that every byte behind it has a position.
 #[derive(Clone, Copy)]
 pub struct Word<'a> {
     pub bytes: &'a [u8],
@@ -16,6 +18,16 @@ pub struct Word<'a> {
 }
 
 impl<'a> Word<'a> {
+    // Where the byte `at` stands.
+    pub fn position(self, at: u8) -> Position
+        ensures { result ≡ position_at self.entry at }
+    {
+        Position {
+            line: self.line,
+            column: u32::from(self.column) + u32::from(at),
+        }
+    }
+
     // A fault at the byte `at`; in line 1 it is one of the first line.
     pub fn fault(self, at: u8) -> Fault
         ensures { result ≡ misfit_at self.entry.line (self.entry.column + at) }
@@ -27,8 +39,7 @@ impl<'a> Word<'a> {
         };
         Fault {
             refusal,
-            line: self.line,
-            column: u32::from(self.column) + u32::from(at),
+            position: self.position(at),
         }
     }
 
