@@ -123,12 +123,12 @@ pub record Stop (r : Rest) (l c : ℕ) (bs : List ℕ) (f : Fault) : Type 0 wher
   pub bad : List ℕ
   pub parts : bs ≡ good ++ bad
   pub place : place_from l c good ≡ f.position
-  pub fault : f ≡ misfit_at f.position.line f.position.column
+  pub fault : f ≡ misfit_at f.position
   pub more : List ℕ
   pub opens : accepts r (good ++ more) ≡ true
   pub halts : Halts r good bad
 
-stop_here : (r : Rest) (l c : ℕ) (bs : List ℕ) (f : Fault) → f ≡ misfit_at l c → Halts r [] bs → Stop r l c bs f
+stop_here : (r : Rest) (l c : ℕ) (bs : List ℕ) (f : Fault) → f ≡ misfit_at (at_place l c) → Halts r [] bs → Stop r l c bs f
 stop_here r l c bs f e h =
     let position : at_place l c ≡ f.position = sym (ap (λ (g : Fault). g.position) e) in
     let done = complete r in
@@ -137,7 +137,7 @@ stop_here r l c bs f e h =
       bad = bs;
       parts = refl;
       place = position;
-      fault = e ∙ ap (λ (p : Position). misfit_at p.line p.column) position;
+      fault = e ∙ ap misfit_at position;
       more = done.0;
       opens = done.1;
       halts = h;
@@ -160,7 +160,7 @@ stop_later r r' l c l' c' x bs f same moved t = record {
   halts = halts_more r r' x t.good t.bad same t.halts;
 }
 
-end_fault : (r : Rest) (l c : ℕ) (f : Fault) → at_end r l c ≡ Err f → (f ≡ misfit_at l c) × (may_end r ≡ false)
+end_fault : (r : Rest) (l c : ℕ) (f : Fault) → at_end r l c ≡ Err f → (f ≡ misfit_at (at_place l c)) × (may_end r ≡ false)
 unfolding may_end
 end_fault begins l c f e = cc
 end_fault (ends cs) l c f e = ((cc), refl)

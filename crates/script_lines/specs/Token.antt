@@ -49,8 +49,8 @@ piece (Err f) = Err f
 -- what a text in line l begins with
 abbrev pub first_piece : List ℕ → ℕ → Result Piece Fault
 first_piece bs l =
-    and_then (ok_or (slice_get bs 0) (misfit_at l 1))
-    (λ x. ok_or (option_map (λ k. record { letter = k; bytes = take (width k) bs; position = at_place l 1 }) (letter x)) (misfit_at l 1))
+    and_then (ok_or (slice_get bs 0) (misfit_at (at_place l 1)))
+    (λ x. ok_or (option_map (λ k. record { letter = k; bytes = take (width k) bs; position = at_place l 1 }) (letter x)) (misfit_at (at_place l 1)))
 
 abbrev pub said : Result Command Fault → Result (List Command) Fault
 said (Ok c) = Ok (c ∷ [])

@@ -103,14 +103,14 @@ abbrev pub at_place : ℕ → ℕ → Position
 at_place l c = record { line = l; column = c }
 
 -- a misfit in line 1 is one of the first line
-abbrev pub misfit_at : ℕ → ℕ → Fault
-misfit_at l c = record { refusal = cond (l == 1) BadFirstLine BadScript; position = at_place l c }
+abbrev pub misfit_at : Position → Fault
+misfit_at p = record { refusal = cond (p.line == 1) BadFirstLine BadScript; position = p }
 
 -- a script may end where a line may begin
 abbrev pub at_end : Rest → ℕ → ℕ → Result (List Placed) Fault
 at_end begins l c = Ok []
-at_end (ends cs) l c = Err (misfit_at l c)
-at_end (next s k) l c = Err (misfit_at l c)
+at_end (ends cs) l c = Err (misfit_at (at_place l c))
+at_end (next s k) l c = Err (misfit_at (at_place l c))
 
 -- commands of line l stand at its beginning
 abbrev pub placed : ℕ → List Command → List Placed
@@ -125,7 +125,7 @@ before ps (Err f) = Err f
 unfoldable pub read : Rest → ℕ → ℕ → List ℕ → Result (List Placed) Fault
 read r l c [] = at_end r l c
 read r l c (x ∷ xs) =
-    elim (step r x) [ misfits ↦ Err (misfit_at l c) | goes r' ↦ read r' l (suc c) xs | says cs ↦ before (placed l cs) (read begins (suc l) 1 xs) ]
+    elim (step r x) [ misfits ↦ Err (misfit_at (at_place l c)) | goes r' ↦ read r' l (suc c) xs | says cs ↦ before (placed l cs) (read begins (suc l) 1 xs) ]
 
 -- the most bytes of a script
 abbrev pub most : ℕ

@@ -1,5 +1,5 @@
 // A part of the script, with the place of its first byte.
-ghost use Rattle.std.specs.Prelude.{◌≡◌, ◌+◌, ◌<◌, ◌≤◌, length, take, IfOk, OnOk};
+ghost use Rattle.std.specs.Prelude.{◌≡◌, ◌<◌, ◌≤◌, length, take, IfOk, OnOk};
 ghost use Rattle.script_words.specs.Format.{only, select_digit, channel_digit, line_letter, level_digit, digit_value, misfit_at};
 ghost use Rattle.script_words.specs.Word.{position_at, any_at, spot_at, digit_at, StandsAt};
 
@@ -30,7 +30,7 @@ impl<'a> Word<'a> {
 
     // A fault at the byte `at`; in line 1 it is one of the first line.
     pub fn fault(self, at: u8) -> Fault
-        ensures { result ≡ misfit_at self.entry.line (self.entry.column + at) }
+        ensures { result ≡ misfit_at (position_at self.entry at) }
     {
         let refusal = if self.line == 1 {
             ScriptRefusal::BadFirstLine
