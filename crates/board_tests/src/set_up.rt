@@ -1,12 +1,15 @@
 // Set-up: what it refuses, and what it leaves.
 use crate::twins::alike;
 use board::board::Board;
+use dacia::access::Place;
 use line::table_line::TableLine;
 use line::wire::Wire;
 use std::process::Abort;
 use std::test::Fail;
+use terms::channel_id::ChannelId;
 use terms::note::{ReadNote, Reading};
 use terms::refusal::Refusal;
+use terms::register::Register;
 
 // The refusal with the smallest number that applies.
 fn due(cr: u8, fr: u8, quiet: bool) -> Result<(), Refusal> {
@@ -41,13 +44,17 @@ fn reading(byte: u8, note: Option<ReadNote>) -> Reading {
 fn shows_set_up(
     rt: &impl Abort,
     board: &mut Board<Wire, Wire>,
-    base: u8,
+    channel: ChannelId,
     fr: u8,
 ) -> Result<(), Fail> {
-    assert_eq!(rt; board.read(base)?, reading(0xc0, None));
-    let csr = 0x40 | (fr & 0x03);
-    assert_eq!(rt; board.read(base | 1)?, reading(csr, None));
-    assert_eq!(rt; board.read(base | 3)?, reading(0x00, Some(ReadNote::Old)));
+    for (register, due) in [
+        (Register::Interrupt, reading(0xc0, None)),
+        (Register::Control, reading(0x40 | (fr & 0x03), None)),
+        (Register::Data, reading(0x00, Some(ReadNote::Old))),
+    ] {
+        let select = Place { channel, register }.select();
+        assert_eq!(rt; board.read(select)?, due);
+    }
     Ok(())
 }
 
@@ -59,8 +66,9 @@ fn every_pair_of_values_is_accepted_or_refused_by_its_number(rt: HostRuntime) ->
             let answer = board.set_up(cr, fr);
             assert_eq!(rt; answer, due(cr, fr, true), "CR {cr} FR {fr}");
             if answer.is_ok() {
-                shows_set_up(&rt, &mut board, 0, fr)?;
-                shows_set_up(&rt, &mut board, 4, fr)?;
+                for channel in ChannelId::BOTH {
+                    shows_set_up(&rt, &mut board, channel, fr)?;
+                }
             }
         }
     }
@@ -121,7 +129,7 @@ fn a_line_is_not_quiet_as_long_as_it_holds_a_low_level(rt: HostRuntime) -> Resul
     // a start bit of 96 cycles, from cycle 7 to 102, and then only high levels
     for cycle in 1..=166u16 {
         board.cycle();
-        if cycle >= 7 && cycle < 166 {
+        if (7..166).contains(&cycle) {
             assert_eq!(rt;
                 board.set_up(0x0e, 0xe3),
                 Err(Refusal::LineNotQuiet),

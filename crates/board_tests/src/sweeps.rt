@@ -50,13 +50,12 @@ fn untouched_from(rt: &impl Abort, records: &[Record], from: usize) {
 
 // A sweep that is refused by a number, and leaves board and records as they were.
 fn refuses(
-    rt: &impl Abort,
-    heap: Global,
+    rt: &(impl Abort + Alloc<A = Global>),
     cycles: u16,
     room: usize,
     due: Refusal,
 ) -> Result<(), Fail> {
-    let mut records = untouched(heap, room)?;
+    let mut records = untouched(rt.alloc(), room)?;
     let mut board = sending()?;
     let answer = board.sweep(cycles, records.as_mut_slice());
     assert_eq!(rt; answer, Err(due), "{cycles} cycles, {room} records");
@@ -68,7 +67,7 @@ fn refuses(
 fn sweeps_of_0_and_of_more_than_2048_are_refused_by_6(rt: HostRuntime) -> Result<(), Fail> {
     for cycles in [0, 2049, 4096, 65535] {
         for room in [0, 4096, 4098] {
-            refuses(&rt, rt.alloc(), cycles, room, Refusal::BadSweepLength)?;
+            refuses(&rt, cycles, room, Refusal::BadSweepLength)?;
         }
     }
     Ok(())
@@ -84,14 +83,19 @@ fn sweeps_with_too_few_records_are_refused_by_7(rt: HostRuntime) -> Result<(), F
         (2048, 0),
         (2048, 4095),
     ] {
-        refuses(&rt, rt.alloc(), cycles, room, Refusal::TooFewRecords)?;
+        refuses(&rt, cycles, room, Refusal::TooFewRecords)?;
     }
     Ok(())
 }
 
 // A sweep takes as many cycles as it says: the board is then as after so many single cycles.
-fn runs(rt: &impl Abort, heap: Global, cycles: u16, room: usize, count: usize) -> Result<(), Fail> {
-    let mut records = untouched(heap, room)?;
+fn runs(
+    rt: &(impl Abort + Alloc<A = Global>),
+    cycles: u16,
+    room: usize,
+    count: usize,
+) -> Result<(), Fail> {
+    let mut records = untouched(rt.alloc(), room)?;
     let mut board = sending()?;
     let answer = board.sweep(cycles, records.as_mut_slice());
     assert_eq!(rt; answer, Ok(count), "{}", cycles);
@@ -105,12 +109,12 @@ fn runs(rt: &impl Abort, heap: Global, cycles: u16, room: usize, count: usize) -
 
 #[test]
 fn a_sweep_takes_its_cycles(rt: HostRuntime) -> Result<(), Fail> {
-    runs(&rt, rt.alloc(), 1, 2, 0)?;
-    runs(&rt, rt.alloc(), 923, 1846, 0)?;
-    runs(&rt, rt.alloc(), 924, 1848, 1)?;
-    runs(&rt, rt.alloc(), 2047, 4096, 2)?;
-    runs(&rt, rt.alloc(), 2048, 4096, 2)?;
-    runs(&rt, rt.alloc(), 2048, 5000, 2)
+    runs(&rt, 1, 2, 0)?;
+    runs(&rt, 923, 1846, 0)?;
+    runs(&rt, 924, 1848, 1)?;
+    runs(&rt, 2047, 4096, 2)?;
+    runs(&rt, 2048, 4096, 2)?;
+    runs(&rt, 2048, 5000, 2)
 }
 
 // Both start bits go into the lines in cycle 7. The wire hands it on at once, so that the receiver sees it at the tick of cycle 12;

@@ -4,7 +4,7 @@ use line::line::Line;
 use std::process::Abort;
 use std::test::Fail;
 
-// The registers that can be read.
+// The registers that can be read. The tests of the chip have this list too: the two crates of tests share no code.
 const READABLE: [u8; 6] = [0, 1, 3, 4, 5, 7];
 
 // So many cycles, and then all registers: both boards answer the same.

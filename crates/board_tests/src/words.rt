@@ -50,11 +50,6 @@ const CONTROLS: [(u8, u8); 2] = [(0x0e, 1), (0x2e, 2)];
 // At rate code 14.
 const CYCLES_OF_A_BIT: u16 = 96;
 
-const WORDS: u16 = 256;
-
-// A frame for each word, and two more for the last ones to come out of the lines.
-const FRAMES: u16 = 258;
-
 #[derive(Clone, Copy)]
 struct Format {
     cr: u8,
@@ -76,18 +71,12 @@ fn format_of(size: Size, parity: u8, control: (u8, u8)) -> Format {
 }
 
 // How many words each channel has heard.
-#[derive(Clone, Copy)]
+#[derive(Clone, Copy, Default)]
 struct Heard {
     one: u8,
     two: u8,
     all: u16,
 }
-
-const NONE_YET: Heard = Heard {
-    one: 0,
-    two: 0,
-    all: 0,
-};
 
 // All words of a format on their way over a board.
 #[derive(Drop)]
@@ -160,10 +149,12 @@ impl<A: Line, B: Line> Run<A, B> {
     fn all(&mut self, rt: &impl Abort) -> Result<(), Fail> {
         let Format { cr, fr, .. } = self.format;
         self.board.set_up(cr, fr)?;
-        for frame in 0..FRAMES {
-            if frame < WORDS {
-                self.send(rt, frame as u8)?;
-            }
+        for word in 0..=255 {
+            self.send(rt, word)?;
+            self.frame(rt)?;
+        }
+        // for the last ones to come out of the lines
+        for _ in 0..2 {
             self.frame(rt)?;
         }
         // 256 words each, so that the count of each is back at 0
@@ -187,7 +178,7 @@ fn carries_all<A: Line + Drop, B: Line + Drop>(
                 let mut run = Run {
                     board,
                     format: format_of(size, parity, control),
-                    heard: NONE_YET,
+                    heard: Heard::default(),
                 };
                 run.all(rt)?;
                 board = run.board;

@@ -2,7 +2,7 @@
 use crate::bench::*;
 use crate::script::Step::*;
 use crate::script::{play, play_at};
-use dacia::access::{Access, ReadAccess, WriteAccess};
+use dacia::access::{ReadAccess, WriteAccess};
 use dacia::chip::{Chip, Inputs, PoweredChip};
 use std::process::Abort;
 use std::test::*;
@@ -14,29 +14,18 @@ use terms::refusal::Refusal;
 // The selects that can be read.
 const READABLE: [u8; 6] = [0, 1, 3, 4, 5, 7];
 
-// Why no access is opened; one that is opened is ended.
-fn refused<K, F: FnOnce(Access<K>)>(opened: Result<Access<K>, Refusal>, end: F) -> Option<Refusal>
-    requires { F.IsAlwaysCallable end }
-{
-    match opened {
-        Ok(access) => {
-            end(access);
-            None
-        }
-        Err(refusal) => Some(refusal),
-    }
-}
-
+// Why no read is opened; one that is opened is ended.
 fn refused_read(chip: &mut Chip, select: u8) -> Option<Refusal> {
-    refused(ReadAccess::open(select), |access| {
-        let _ = chip.end_read(access);
-    })
+    ReadAccess::open(select)
+        .map(|access| chip.end_read(access))
+        .err()
 }
 
+// Why no write is opened; one that is opened is ended.
 fn refused_write(chip: &mut Chip, select: u8) -> Option<Refusal> {
-    refused(WriteAccess::open(select), |access| {
-        chip.end_write(access, 0xff);
-    })
+    WriteAccess::open(select)
+        .map(|access| chip.end_write(access, 0xff))
+        .err()
 }
 
 // One cycle with RxD1 low.
@@ -51,11 +40,11 @@ fn step(chip: &mut Chip) {
 // A chip with something to show in each register: requests, changes, a frame being sent, one being gathered and a word waiting.
 fn busy_chip() -> Result<Chip, Refusal> {
     let mut chip = PoweredChip::power_on().reset();
-    for base in [0, 4] {
-        chip.write(base, 0xff)?;
-        chip.write(base | 1, 0x0f)?;
-        chip.write(base | 1, 0xe1)?;
-        chip.write(base | 3, 0x41)?;
+    for channel in ChannelId::BOTH {
+        chip.write(select(channel, IER), 0xff)?;
+        chip.write(select(channel, CR), 0x0f)?;
+        chip.write(select(channel, FR), 0xe1)?;
+        chip.write(select(channel, TDR), 0x41)?;
     }
     for _ in 0..40 {
         step(&mut chip);
@@ -69,7 +58,7 @@ fn busy_chip() -> Result<Chip, Refusal> {
 // Two chips read the same and keep the same levels, now and through the next cycles.
 fn are_alike(rt: &impl Abort, mut left: Chip, mut right: Chip) -> Result<(), Fail> {
     for cycle in 0..200u8 {
-        for channel in CHANNELS {
+        for channel in ChannelId::BOTH {
             assert_eq!(rt; left.txd(channel), right.txd(channel), "{}", cycle);
             assert_eq!(rt; left.irq(channel), right.irq(channel), "{}", cycle);
         }
@@ -178,7 +167,7 @@ fn a_write_works_when_it_is_ended(rt: HostRuntime) -> Result<(), Fail> {
 
 #[test]
 fn rdr_is_fresh_once(rt: HostRuntime) -> Result<(), Fail> {
-    for channel in CHANNELS {
+    for channel in ChannelId::BOTH {
         let mut bench = Bench::new(channel);
         play(
             &rt,
@@ -215,10 +204,10 @@ fn tdr_is_replaced_until_its_word_is_taken(rt: HostRuntime) -> Result<(), Fail> 
             Stored(0x10),
             Replaced(0x11),
             Replaced(0x41),
-            SendsBits(2, 0b0_1),
+            SendsBits(Bits(2, 0b0_1)),
             Stored(0x12),
             Replaced(0x42),
-            SendsBits(8, 0b0000010_1),
+            SendsBits(Bits(8, 0b0000010_1)),
             SendsWord(0x42),
             Sends(HIGH, 400),
             Stored(0x43),
@@ -228,7 +217,7 @@ fn tdr_is_replaced_until_its_word_is_taken(rt: HostRuntime) -> Result<(), Fail> 
 
 #[test]
 fn the_other_registers_have_no_note(rt: HostRuntime) -> Result<(), Fail> {
-    for channel in CHANNELS {
+    for channel in ChannelId::BOTH {
         let mut bench = Bench::new(channel);
         assert_eq!(rt; bench.read(ISR)?.note, None);
         assert_eq!(rt; bench.read(CSR)?.note, None);

@@ -1,4 +1,6 @@
 // A chip on the bench: one channel of it is under test, and the RxD of the other stays high.
+ghost use Rattle.std.specs.Iterator.{at_most};
+
 use channel::channel::{ChannelAnswer, Marks};
 use dacia::access::Place;
 use dacia::chip::{Chip, Inputs, PoweredChip};
@@ -10,8 +12,6 @@ use terms::note::{ReadNote, Reading, WriteNote};
 use terms::refusal::Refusal;
 use terms::register::Register;
 use terms::report::{Report, ReportKind};
-
-pub(crate) const CHANNELS: [ChannelId; 2] = [ChannelId::One, ChannelId::Two];
 
 pub(crate) const LOW: bool = false;
 
@@ -117,28 +117,53 @@ pub(crate) fn plain(word: u8) -> Frame {
 }
 
 impl Frame {
-    // All its bits, from the start bit on: how many, and the number of them in which the first is the highest.
-    fn row(self) -> (u8, u16) {
-        let data = u16::from(self.word);
-        let mut row = 0u16;
+    // All its bits, from the start bit on.
+    fn row(self) -> Bits {
+        let mut row = Bits(0, 0);
+        row.push(LOW);
         for place in 0..self.bits {
-            row = row << 1 | u16::from(bit(data, place));
+            row.push(bit(u16::from(self.word), place));
         }
-        let mut count = self.bits.saturating_add(1).saturating_add(self.stops);
         if let Some(parity) = self.parity {
-            row = row << 1 | u16::from(parity);
-            count = count.saturating_add(1);
+            row.push(parity);
         }
         for _ in 0..self.stops {
-            row = row << 1 | 1;
+            row.push(HIGH);
         }
-        (count, row)
+        row
+    }
+}
+
+// Bits in a row: how many, and a number that ends with them, the first of them the highest.
+#[derive(Clone, Copy)]
+pub(crate) struct Bits(pub(crate) u8, pub(crate) u16);
+
+impl Bits {
+    fn push(&mut self, bit: bool) {
+        self.0 = self.0.saturating_add(1);
+        self.1 = self.1 << 1 | u16::from(bit);
+    }
+}
+
+impl Iterator for Bits {
+    type Item = bool;
+
+    ghost remaining = { λ s. at_most s.0 };
+
+    fn next(&mut self) -> Option<bool> {
+        self.0 = self.0.checked_sub(1)?;
+        Some(bit(self.1, self.0))
     }
 }
 
 // A bit of a number; those that it has no place for are low.
 fn bit(number: u16, place: u8) -> bool {
     number.checked_shr(u32::from(place)).unwrap_or(0) % 2 == 1
+}
+
+// The select of a channel's register.
+pub(crate) fn select(channel: ChannelId, register: Register) -> u8 {
+    Place { channel, register }.select()
 }
 
 // A cycle of a chip with one level on the RxD of a channel and another on that of the other one.
@@ -149,24 +174,11 @@ pub(crate) fn cycle_of(
     other: bool,
     marks: Marks,
 ) -> ChannelAnswer {
-    match channel {
-        ChannelId::One => {
-            chip.cycle(Inputs {
-                rxd1: own,
-                rxd2: other,
-                marks,
-            })
-            .one
-        }
-        ChannelId::Two => {
-            chip.cycle(Inputs {
-                rxd1: other,
-                rxd2: own,
-                marks,
-            })
-            .two
-        }
-    }
+    let (rxd1, rxd2) = match channel {
+        ChannelId::One => (own, other),
+        ChannelId::Two => (other, own),
+    };
+    chip.cycle(Inputs { rxd1, rxd2, marks }).of(channel)
 }
 
 #[derive(Drop)]
@@ -196,14 +208,8 @@ impl Bench {
         Ok(bench)
     }
 
-    fn select(&self, register: Register) -> u8 {
-        let channel = self.channel;
-        Place { channel, register }.select()
-    }
-
     pub(crate) fn read(&mut self, register: Register) -> Result<Reading, Refusal> {
-        let select = self.select(register);
-        self.chip.read(select)
+        self.chip.read(select(self.channel, register))
     }
 
     pub(crate) fn write(
@@ -211,8 +217,7 @@ impl Bench {
         register: Register,
         byte: u8,
     ) -> Result<Option<WriteNote>, Refusal> {
-        let select = self.select(register);
-        self.chip.write(select, byte)
+        self.chip.write(select(self.channel, register), byte)
     }
 
     // Writes ACR, and leaves CR at $0F.
@@ -244,19 +249,18 @@ impl Bench {
         last
     }
 
-    // The last `count` bits of a number on RxD, the first of them first, each for 16 ticks; the report in the last one.
-    pub(crate) fn hears_bits(&mut self, count: u8, bits: u16) -> Option<Report> {
+    // Bits on RxD, each for 16 ticks; the report in the last one.
+    pub(crate) fn hears_bits(&mut self, bits: Bits) -> Option<Report> {
         let mut last = None;
-        for place in (0..count).rev() {
-            last = self.hear(bit(bits, place), 16);
+        for level in bits {
+            last = self.hear(level, 16);
         }
         last
     }
 
     // A frame on RxD; the report in its stop bit.
     pub(crate) fn hears_frame(&mut self, frame: Frame) -> Option<Report> {
-        let (count, row) = frame.row();
-        self.hears_bits(count, row)
+        self.hears_bits(frame.row())
     }
 
     // A word on RxD in a plain frame.
@@ -289,18 +293,17 @@ impl Bench {
         Ok(())
     }
 
-    // The last `count` bits of a number on TxD, the first of them first, each for 16 ticks.
-    pub(crate) fn sends_bits(&mut self, rt: &impl Abort, count: u8, bits: u16) -> Result<(), Fail> {
-        for place in (0..count).rev() {
-            self.sends_level(rt, bit(bits, place), 16)?;
+    // Bits on TxD, each for 16 ticks.
+    pub(crate) fn sends_bits(&mut self, rt: &impl Abort, bits: Bits) -> Result<(), Fail> {
+        for level in bits {
+            self.sends_level(rt, level, 16)?;
         }
         Ok(())
     }
 
     // A frame on TxD.
     pub(crate) fn sends_frame(&mut self, rt: &impl Abort, frame: Frame) -> Result<(), Fail> {
-        let (count, row) = frame.row();
-        self.sends_bits(rt, count, row)
+        self.sends_bits(rt, frame.row())
     }
 
     pub(crate) fn isr_is(&mut self, rt: &impl Abort, byte: u8) -> Result<(), Fail> {

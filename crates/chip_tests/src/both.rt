@@ -1,7 +1,6 @@
 // Both channels at once: they keep apart, a cycle answers for both, and a wire joins them.
 use crate::bench::*;
-use channel::channel::Marks;
-use dacia::access::Place;
+use channel::channel::{ChannelAnswer, Marks};
 use dacia::chip::{Chip, ChipAnswer, Inputs, PoweredChip};
 use std::process::Abort;
 use std::test::*;
@@ -14,10 +13,10 @@ use terms::register::Register;
 // A chip with rate code 14 and plain frames in both channels, and nothing to read.
 fn set_up() -> Result<Chip, Refusal> {
     let mut chip = PoweredChip::power_on().reset();
-    for base in [0, 4] {
-        chip.write(base | 1, 0x0e)?;
-        chip.write(base | 1, 0xe0)?;
-        chip.read(base | 3)?;
+    for channel in ChannelId::BOTH {
+        chip.write(select(channel, CR), 0x0e)?;
+        chip.write(select(channel, FR), 0xe0)?;
+        chip.read(select(channel, RDR))?;
     }
     Ok(chip)
 }
@@ -40,11 +39,10 @@ fn a_word_crosses_a_wire_in_924_cycles(rt: HostRuntime) -> Result<(), Fail> {
     chip.write(7, 0x42)?;
     for cycle in 1..2000u16 {
         let answer = wired_cycle(&mut chip);
-        let ends = cycle == 924;
-        let one = if ends { kept(0x42) } else { None };
-        let two = if ends { kept(0x41) } else { None };
-        assert_eq!(rt; answer.one.report, one, "{}", cycle);
-        assert_eq!(rt; answer.two.report, two, "{}", cycle);
+        for (channel, word) in [(ChannelId::One, 0x42), (ChannelId::Two, 0x41)] {
+            let due = if cycle == 924 { kept(word) } else { None };
+            assert_eq!(rt; answer.of(channel).report, due, "{}", cycle);
+        }
     }
     assert_eq!(rt; chip.read(3)?.byte, 0x42);
     assert_eq!(rt; chip.read(7)?.byte, 0x41);
@@ -63,7 +61,8 @@ impl Dice {
             .state
             .wrapping_mul(6364136223846793005)
             .wrapping_add(1442695040888963407);
-        ((self.state >> 56) & 0xff) as u8
+        let [top, ..] = self.state.to_be_bytes();
+        top
     }
 
     fn level(&mut self) -> bool {
@@ -80,7 +79,7 @@ impl Dice {
     }
 }
 
-// What a program does to a channel between two cycles.
+// What a program does to a channel between two cycles. An enum and no closure, since the same is done to two chips.
 #[derive(Clone, Copy)]
 enum Act {
     Read(Register),
@@ -114,13 +113,9 @@ fn thrown(dice: &mut Dice) -> Option<Act> {
 // Does it, and answers what comes of an access.
 fn done(act: Option<Act>, chip: &mut Chip, channel: ChannelId) -> Option<Outcome> {
     match act? {
-        Act::Read(register) => {
-            let select = Place { channel, register }.select();
-            Some(Outcome::Read(chip.read(select)))
-        }
+        Act::Read(register) => { Some(Outcome::Read(chip.read(select(channel, register)))) }
         Act::Write(register, byte) => {
-            let select = Place { channel, register }.select();
-            Some(Outcome::Written(chip.write(select, byte)))
+            Some(Outcome::Written(chip.write(select(channel, register), byte)))
         }
         Act::Modem(line, level) => {
             chip.set_modem(channel, line, level);
@@ -169,7 +164,7 @@ fn a_cycle_answers_the_levels_that_it_leaves(rt: HostRuntime) -> Result<(), Fail
     let mut dice = Dice { state: 52 };
     let mut chip = PoweredChip::power_on().reset();
     for cycle in 0..200000u32 {
-        for channel in CHANNELS {
+        for channel in ChannelId::BOTH {
             done(thrown(&mut dice), &mut chip, channel);
         }
         let inputs = Inputs {
@@ -181,10 +176,11 @@ fn a_cycle_answers_the_levels_that_it_leaves(rt: HostRuntime) -> Result<(), Fail
             },
         };
         let answer = chip.cycle(inputs);
-        assert_eq!(rt; answer.one.txd, chip.txd(ChannelId::One), "{}", cycle);
-        assert_eq!(rt; answer.two.txd, chip.txd(ChannelId::Two), "{}", cycle);
-        assert_eq!(rt; answer.one.irq, chip.irq(ChannelId::One), "{}", cycle);
-        assert_eq!(rt; answer.two.irq, chip.irq(ChannelId::Two), "{}", cycle);
+        for channel in ChannelId::BOTH {
+            let ChannelAnswer { txd, irq, .. } = answer.of(channel);
+            assert_eq!(rt; txd, chip.txd(channel), "{}", cycle);
+            assert_eq!(rt; irq, chip.irq(channel), "{}", cycle);
+        }
     }
     Ok(())
 }

@@ -3,10 +3,11 @@ use crate::bench::*;
 use crate::script::Step::*;
 use crate::script::{play, play_at};
 use std::test::*;
+use terms::channel_id::ChannelId;
 
 #[test]
 fn a_reset_chip_reads_c1_and_43(rt: HostRuntime) -> Result<(), Fail> {
-    for channel in CHANNELS {
+    for channel in ChannelId::BOTH {
         let mut bench = Bench::new(channel);
         play(&rt, &mut bench, &[Read(ISR, 0xc1), Read(CSR, 0x43)])?;
     }
@@ -15,7 +16,11 @@ fn a_reset_chip_reads_c1_and_43(rt: HostRuntime) -> Result<(), Fail> {
 
 #[test]
 fn sends_41_at_fr_e0(rt: HostRuntime) -> Result<(), Fail> {
-    play_at(&rt, 0xe0, &[Write(TDR, 0x41), SendsBits(10, 0b0100000101)])
+    play_at(
+        &rt,
+        0xe0,
+        &[Write(TDR, 0x41), SendsBits(Bits(10, 0b0100000101))],
+    )
 }
 
 #[test]
@@ -23,12 +28,12 @@ fn sends_41_in_seven_bits_with_parity(rt: HostRuntime) -> Result<(), Fail> {
     play_at(
         &rt,
         0xcc,
-        &[Write(TDR, 0x41), SendsBits(10, 0b0_1000001_0_1)],
+        &[Write(TDR, 0x41), SendsBits(Bits(10, 0b0_1000001_0_1))],
     )?;
     play_at(
         &rt,
         0xc4,
-        &[Write(TDR, 0x41), SendsBits(10, 0b0_1000001_1_1)],
+        &[Write(TDR, 0x41), SendsBits(Bits(10, 0b0_1000001_1_1))],
     )
 }
 

@@ -3,10 +3,11 @@ use crate::bench::*;
 use crate::script::Step::*;
 use crate::script::{play, play_at};
 use std::test::*;
+use terms::channel_id::ChannelId;
 use terms::modem_line::ModemLine;
 use terms::refusal::Refusal;
 
-// What makes a source rise.
+// What makes a source rise. An enum and no closures, since `CAUSES` is a table of constants.
 #[derive(Clone, Copy)]
 enum Cause {
     WordTaken,
@@ -61,20 +62,20 @@ impl Cause {
             Cause::DcdChange => bench.modem(ModemLine::Dcd, HIGH),
             Cause::DsrChange => bench.modem(ModemLine::Dsr, HIGH),
             Cause::WrongParity => {
-                bench.hears_bits(11, 0b0_10000010_1_1);
+                bench.hears_bits(Bits(11, 0b0_10000010_1_1));
             }
             Cause::LowStopBit => {
-                bench.hears_bits(11, 0b0_10000010_0_0);
+                bench.hears_bits(Bits(11, 0b0_10000010_0_0));
             }
             Cause::Overrun => {
-                bench.hears_bits(11, 0b0_10000010_0_1);
-                bench.hears_bits(11, 0b0_10000010_0_1);
+                bench.hears_bits(Bits(11, 0b0_10000010_0_1));
+                bench.hears_bits(Bits(11, 0b0_10000010_0_1));
             }
             Cause::LineBreak => {
                 bench.hear(LOW, 176);
             }
             Cause::Word => {
-                bench.hears_bits(11, 0b0_10000010_0_1);
+                bench.hears_bits(Bits(11, 0b0_10000010_0_1));
             }
         }
         Ok(())
@@ -83,7 +84,7 @@ impl Cause {
 
 #[test]
 fn a_source_requests_only_while_it_is_enabled(rt: HostRuntime) -> Result<(), Fail> {
-    for channel in CHANNELS {
+    for channel in ChannelId::BOTH {
         for cause in CAUSES {
             for enabled in 0..128u8 {
                 let mut bench = Bench::clocked(channel, EVEN)?;
@@ -101,7 +102,7 @@ fn a_source_requests_only_while_it_is_enabled(rt: HostRuntime) -> Result<(), Fai
 // Sources are enabled and disabled one by one, and the others stay as they were.
 #[test]
 fn ier_enables_and_disables_single_sources(rt: HostRuntime) -> Result<(), Fail> {
-    for channel in CHANNELS {
+    for channel in ChannelId::BOTH {
         for cause in CAUSES {
             for disabled in 0..128u8 {
                 let mut bench = Bench::clocked(channel, EVEN)?;
@@ -121,7 +122,7 @@ fn ier_enables_and_disables_single_sources(rt: HostRuntime) -> Result<(), Fail> 
 // Disabling a source drops its request for good.
 #[test]
 fn a_disabled_source_loses_its_request(rt: HostRuntime) -> Result<(), Fail> {
-    for channel in CHANNELS {
+    for channel in ChannelId::BOTH {
         for cause in CAUSES {
             for disabled in 0..128u8 {
                 let mut bench = Bench::clocked(channel, EVEN)?;
@@ -142,7 +143,7 @@ fn a_disabled_source_loses_its_request(rt: HostRuntime) -> Result<(), Fail> {
 
 #[test]
 fn a_source_that_is_set_already_makes_no_request(rt: HostRuntime) -> Result<(), Fail> {
-    for channel in CHANNELS {
+    for channel in ChannelId::BOTH {
         for cause in CAUSES {
             let mut bench = Bench::clocked(channel, EVEN)?;
             cause.happen(&mut bench)?;
@@ -169,7 +170,7 @@ fn a_source_that_is_set_already_makes_no_request(rt: HostRuntime) -> Result<(), 
 // All requests go at once, and the sources stay but for the changes.
 #[test]
 fn a_read_of_isr_drops_every_request(rt: HostRuntime) -> Result<(), Fail> {
-    for channel in CHANNELS {
+    for channel in ChannelId::BOTH {
         let mut bench = Bench::clocked(channel, EVEN)?;
         bench.write(IER, 0xff)?;
         for cause in [
@@ -201,7 +202,7 @@ fn a_read_of_isr_drops_every_request(rt: HostRuntime) -> Result<(), Fail> {
 // Each source alone: a read of ISR drops its request, and one of RDR if it clears the source.
 #[test]
 fn reads_drop_the_request_of_a_single_source(rt: HostRuntime) -> Result<(), Fail> {
-    for channel in CHANNELS {
+    for channel in ChannelId::BOTH {
         for cause in CAUSES {
             let mut bench = Bench::clocked(channel, EVEN)?;
             bench.write(IER, 0xff)?;
@@ -234,7 +235,7 @@ fn tdre_requests_when_a_word_is_taken(rt: HostRuntime) -> Result<(), Fail> {
             // a full TDR drops it, and the next word taken raises it
             Write(TDR, 0x42),
             Irq(HIGH),
-            SendsBits(9, 0b10000010_1),
+            SendsBits(Bits(9, 0b10000010_1)),
             Irq(HIGH),
             Sends(LOW, 1),
             Irq(LOW),
@@ -274,7 +275,7 @@ fn tdre_does_not_request_when_cts_falls(rt: HostRuntime) -> Result<(), Fail> {
 // It clears RDRF and leaves PAR and F/O/B.
 #[test]
 fn a_write_to_cdr_drops_the_request_of_rdrf(rt: HostRuntime) -> Result<(), Fail> {
-    for channel in CHANNELS {
+    for channel in ChannelId::BOTH {
         for cause in CAUSES {
             let mut bench = Bench::clocked(channel, EVEN)?;
             bench.write(IER, 0xff)?;

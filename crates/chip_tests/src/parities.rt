@@ -3,6 +3,7 @@ use crate::bench::*;
 use serial::parity::Parity;
 use std::process::Abort;
 use std::test::*;
+use terms::channel_id::ChannelId;
 use terms::note::ReadNote;
 
 // FR bits 4-3 with their parity.
@@ -36,22 +37,19 @@ fn sends_each_word(
 ) -> Result<(), Fail> {
     for word in 0..=length.greatest {
         bench.write(TDR, word)?;
-        bench.sends_frame(
-            rt,
-            Frame {
-                word,
-                bits: length.bits,
-                parity: Some(right_bit(parity, word)),
-                stops: 1,
-            },
-        )?;
+        let frame = Frame {
+            bits: length.bits,
+            parity: Some(right_bit(parity, word)),
+            ..plain(word)
+        };
+        bench.sends_frame(rt, frame)?;
     }
     Ok(())
 }
 
 #[test]
 fn the_parity_bit_is_sent(rt: HostRuntime) -> Result<(), Fail> {
-    for channel in CHANNELS {
+    for channel in ChannelId::BOTH {
         for length in LENGTHS {
             for (fr, parity) in PARITIES {
                 let mut bench = Bench::clocked(channel, length.fr | CHECKED | fr)?;
@@ -66,20 +64,17 @@ fn the_parity_bit_is_sent(rt: HostRuntime) -> Result<(), Fail> {
 // The bits above the length count for nothing.
 #[test]
 fn the_parity_is_that_of_the_cut_word(rt: HostRuntime) -> Result<(), Fail> {
-    for channel in CHANNELS {
+    for channel in ChannelId::BOTH {
         for (fr, parity) in PARITIES {
             let mut bench = Bench::clocked(channel, 0x84 | fr)?;
             for word in 0..=255 {
                 bench.write(TDR, word)?;
-                bench.sends_frame(
-                    &rt,
-                    Frame {
-                        word,
-                        bits: 5,
-                        parity: Some(right_bit(parity, word % 32)),
-                        stops: 1,
-                    },
-                )?;
+                let frame = Frame {
+                    bits: 5,
+                    parity: Some(right_bit(parity, word % 32)),
+                    ..plain(word)
+                };
+                bench.sends_frame(&rt, frame)?;
             }
         }
     }
@@ -111,10 +106,9 @@ fn hears_each_word(
         for bit in [right, !right] {
             let par = if shows_bit { bit } else { bit != right };
             let frame = Frame {
-                word,
                 bits: length.bits,
                 parity: Some(bit),
-                stops: 1,
+                ..plain(word)
             };
             hears(rt, bench, frame, par)?;
         }
@@ -124,7 +118,7 @@ fn hears_each_word(
 
 #[test]
 fn par_is_a_wrong_parity_bit_or_the_bit_itself(rt: HostRuntime) -> Result<(), Fail> {
-    for channel in CHANNELS {
+    for channel in ChannelId::BOTH {
         for length in LENGTHS {
             for (fr, parity) in PARITIES {
                 for (acr, shows_bit) in [(0x00, false), (0x01, true)] {
@@ -142,7 +136,7 @@ fn par_is_a_wrong_parity_bit_or_the_bit_itself(rt: HostRuntime) -> Result<(), Fa
 // FR bit 2 clear: there is no parity bit, and PAR is 0 whatever FR bits 4-3 and ACR bit 0 say.
 #[test]
 fn par_is_0_without_parity(rt: HostRuntime) -> Result<(), Fail> {
-    for channel in CHANNELS {
+    for channel in ChannelId::BOTH {
         for (fr, _) in PARITIES {
             for acr in [0x00, 0x01] {
                 let mut bench = Bench::clocked(channel, 0xe0 | fr)?;

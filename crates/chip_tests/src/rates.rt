@@ -3,6 +3,7 @@ use crate::bench::*;
 use channel::channel::Marks;
 use std::process::Abort;
 use std::test::*;
+use terms::channel_id::ChannelId;
 use terms::note::ReadNote;
 use terms::refusal::Refusal;
 use terms::report::ReportKind;
@@ -70,7 +71,7 @@ fn write_around(bench: &mut Bench, code: u8) -> Result<(), Refusal> {
 // The marks of a cycle mean nothing to these codes.
 #[test]
 fn the_first_tick_comes_at_the_divisor(rt: HostRuntime) -> Result<(), Fail> {
-    for channel in CHANNELS {
+    for channel in ChannelId::BOTH {
         for (code, divisor) in DIVISORS {
             for marks in [UNMARKED, RXC_TXC] {
                 let mut bench = Bench::new(channel);
@@ -87,12 +88,12 @@ fn the_first_tick_comes_at_the_divisor(rt: HostRuntime) -> Result<(), Fail> {
 // A bit lasts 16 ticks: the start bit falls at the first one and the data bit behind it rises at the 17th.
 #[test]
 fn a_bit_lasts_16_divisors(rt: HostRuntime) -> Result<(), Fail> {
-    for channel in CHANNELS {
+    for channel in ChannelId::BOTH {
         for (code, divisor) in DIVISORS {
             let mut bench = Bench::new(channel);
             bench.write(CR, code)?;
             bench.write(TDR, 0x01)?;
-            let falls = divisor as u32;
+            let falls = u32::from(divisor);
             let rises = 17 * falls;
             for cycle in 1..=rises {
                 let level = cycle < falls || cycle == rises;
@@ -106,12 +107,12 @@ fn a_bit_lasts_16_divisors(rt: HostRuntime) -> Result<(), Fail> {
 // The receiver has the same ticks: at FR $E0 it reports a break at the 153rd.
 #[test]
 fn a_break_is_reported_at_the_153rd_divisor(rt: HostRuntime) -> Result<(), Fail> {
-    for channel in CHANNELS {
+    for channel in ChannelId::BOTH {
         for (code, divisor) in DIVISORS {
             let mut bench = Bench::new(channel);
             bench.write(CR, code)?;
             bench.write(FR, 0xe0)?;
-            let end = 153 * divisor as u32;
+            let end = 153 * u32::from(divisor);
             for cycle in 1..=end {
                 let report = if cycle < end {
                     None
@@ -127,7 +128,7 @@ fn a_break_is_reported_at_the_153rd_divisor(rt: HostRuntime) -> Result<(), Fail>
 
 #[test]
 fn another_rate_code_restarts_the_count(rt: HostRuntime) -> Result<(), Fail> {
-    for channel in CHANNELS {
+    for channel in ChannelId::BOTH {
         for (code, divisor) in DIVISORS {
             for (other, other_divisor) in DIVISORS {
                 if code != other {
@@ -149,7 +150,7 @@ fn another_rate_code_restarts_the_count(rt: HostRuntime) -> Result<(), Fail> {
 
 #[test]
 fn rate_code_15_and_back_restarts_the_count(rt: HostRuntime) -> Result<(), Fail> {
-    for channel in CHANNELS {
+    for channel in ChannelId::BOTH {
         for (code, divisor) in DIVISORS {
             let mut bench = Bench::new(channel);
             bench.write(CR, code)?;
@@ -168,7 +169,7 @@ fn rate_code_15_and_back_restarts_the_count(rt: HostRuntime) -> Result<(), Fail>
 
 #[test]
 fn the_same_rate_code_leaves_the_count(rt: HostRuntime) -> Result<(), Fail> {
-    for channel in CHANNELS {
+    for channel in ChannelId::BOTH {
         for (code, divisor) in DIVISORS {
             let mut bench = Bench::new(channel);
             bench.write(CR, code)?;
@@ -184,7 +185,7 @@ fn the_same_rate_code_leaves_the_count(rt: HostRuntime) -> Result<(), Fail> {
 
 #[test]
 fn with_code_15_the_transmitter_ticks_on_txc_alone(rt: HostRuntime) -> Result<(), Fail> {
-    for channel in CHANNELS {
+    for channel in ChannelId::BOTH {
         let mut bench = Bench::clocked(channel, 0xe0)?;
         bench.write(TDR, 0x01)?;
         for _ in 0..5000 {
@@ -203,7 +204,7 @@ fn with_code_15_the_transmitter_ticks_on_txc_alone(rt: HostRuntime) -> Result<()
 
 #[test]
 fn with_code_15_the_receiver_ticks_on_rxc_alone(rt: HostRuntime) -> Result<(), Fail> {
-    for channel in CHANNELS {
+    for channel in ChannelId::BOTH {
         let mut bench = Bench::clocked(channel, 0xe0)?;
         for _ in 0..5000 {
             assert_eq!(rt; bench.cycle(LOW, UNMARKED).report, None);

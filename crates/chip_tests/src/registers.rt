@@ -3,26 +3,23 @@ use crate::bench::*;
 use crate::script::Step::*;
 use crate::script::play_at;
 use std::test::*;
+use terms::channel_id::ChannelId;
 use terms::note::ReadNote;
 use terms::report::ReportKind;
 
 // FR bits 6-5 and TDR: each word is sent cut to its data bits, with the next one right behind it.
 #[test]
 fn each_word_is_sent_cut_to_its_length(rt: HostRuntime) -> Result<(), Fail> {
-    for channel in CHANNELS {
+    for channel in ChannelId::BOTH {
         for Length { fr, bits, .. } in LENGTHS {
             let mut bench = Bench::clocked(channel, fr)?;
             for word in 0..=255 {
                 bench.write(TDR, word)?;
-                bench.sends_frame(
-                    &rt,
-                    Frame {
-                        word,
-                        bits,
-                        parity: None,
-                        stops: 1,
-                    },
-                )?;
+                let frame = Frame {
+                    bits,
+                    ..plain(word)
+                };
+                bench.sends_frame(&rt, frame)?;
             }
             bench.sends_level(&rt, HIGH, 200)?;
         }
@@ -33,15 +30,13 @@ fn each_word_is_sent_cut_to_its_length(rt: HostRuntime) -> Result<(), Fail> {
 // FR bits 6-5 and RDR: each word is kept and read.
 #[test]
 fn each_word_is_kept_at_its_length(rt: HostRuntime) -> Result<(), Fail> {
-    for channel in CHANNELS {
+    for channel in ChannelId::BOTH {
         for Length { fr, bits, greatest } in LENGTHS {
             let mut bench = Bench::clocked(channel, fr)?;
             for word in 0..=greatest {
                 let frame = Frame {
-                    word,
                     bits,
-                    parity: None,
-                    stops: 1,
+                    ..plain(word)
                 };
                 assert_eq!(rt; bench.hears_frame(frame), kept(word));
                 bench.rdr_is(&rt, word, ReadNote::Fresh)?;
@@ -54,21 +49,17 @@ fn each_word_is_kept_at_its_length(rt: HostRuntime) -> Result<(), Fail> {
 // CR bit 5: the next frame comes behind one stop bit or behind two.
 #[test]
 fn cr_bit_5_makes_two_stop_bits(rt: HostRuntime) -> Result<(), Fail> {
-    for channel in CHANNELS {
+    for channel in ChannelId::BOTH {
         for (cr, stops) in [(0x0f, 1), (0x2f, 2)] {
             let mut bench = Bench::clocked(channel, 0xe0)?;
             bench.write(CR, cr)?;
             for word in [0x41, 0x00, 0xff] {
                 bench.write(TDR, word)?;
-                bench.sends_frame(
-                    &rt,
-                    Frame {
-                        word,
-                        bits: 8,
-                        parity: None,
-                        stops,
-                    },
-                )?;
+                let frame = Frame {
+                    stops,
+                    ..plain(word)
+                };
+                bench.sends_frame(&rt, frame)?;
             }
         }
     }
@@ -117,13 +108,13 @@ fn bit_7_chooses_fr(rt: HostRuntime) -> Result<(), Fail> {
             Read(CSR, 0x40),
             // CR stays at rate code 15 and two stop bits
             Write(TDR, 0x41),
-            SendsBits(11, 0b0_1000001_1_11),
+            SendsBits(Bits(11, 0b0_1000001_1_11)),
             // FR stays at seven bits and odd parity
             Write(CR, 0x0f),
             Write(TDR, 0x41),
-            SendsBits(10, 0b0_1000001_1_1),
+            SendsBits(Bits(10, 0b0_1000001_1_1)),
             Write(TDR, 0x41),
-            SendsBits(1, 0b0),
+            SendsBits(Bits(1, 0b0)),
         ],
     )
 }
@@ -156,7 +147,7 @@ fn acr_bit_1_sends_a_break(rt: HostRuntime) -> Result<(), Fail> {
 // CDR: only the word that equals it in every bit wakes the receiver.
 #[test]
 fn cdr_is_compared_bit_by_bit(rt: HostRuntime) -> Result<(), Fail> {
-    for channel in CHANNELS {
+    for channel in ChannelId::BOTH {
         let mut bench = Bench::clocked(channel, 0xe0)?;
         for address in 0..=255 {
             bench.write(CDR, address)?;
@@ -184,14 +175,14 @@ fn a_short_word_never_equals_a_long_address(rt: HostRuntime) -> Result<(), Fail>
         0xc0,
         &[
             Write(CDR, 0xc1),
-            HearsBits(9, 0b0_1000001_1),
+            HearsBits(Bits(9, 0b0_1000001_1)),
             Passed(0x41),
-            HearsBits(9, 0b0_1000001_1),
+            HearsBits(Bits(9, 0b0_1000001_1)),
             Passed(0x41),
             Write(CDR, 0x41),
-            HearsBits(9, 0b0_1000001_1),
+            HearsBits(Bits(9, 0b0_1000001_1)),
             Passed(0x41),
-            HearsBits(9, 0b0_1000001_1),
+            HearsBits(Bits(9, 0b0_1000001_1)),
             Kept(0x41),
         ],
     )

@@ -3,6 +3,7 @@ use crate::bench::*;
 use crate::script::Step::*;
 use crate::script::play_at;
 use std::test::*;
+use terms::channel_id::ChannelId;
 use terms::modem_line::ModemLine;
 
 #[test]
@@ -12,12 +13,12 @@ fn a_reset_leaves_the_transmitter_and_tdr(rt: HostRuntime) -> Result<(), Fail> {
         0xe0,
         &[
             Write(TDR, 0x41),
-            SendsBits(3, 0b0_10),
+            SendsBits(Bits(3, 0b0_10)),
             Write(TDR, 0x42),
             Sends(LOW, 5),
             Reset,
             Sends(LOW, 11),
-            SendsBits(6, 0b00010_1),
+            SendsBits(Bits(6, 0b00010_1)),
             Replaced(0x43),
             Reset,
             SendsWord(0x43),
@@ -30,7 +31,7 @@ fn a_reset_leaves_the_transmitter_and_tdr(rt: HostRuntime) -> Result<(), Fail> {
 // A reset comes in each tick of a frame with $55, whose bits are low and high in turn.
 #[test]
 fn a_reset_leaves_a_frame_that_is_gathered(rt: HostRuntime) -> Result<(), Fail> {
-    for channel in CHANNELS {
+    for channel in ChannelId::BOTH {
         for place in 0..153 {
             let mut bench = Bench::clocked(channel, 0xe0)?;
             for tick in 0..152 {
@@ -108,7 +109,7 @@ fn a_reset_leaves_the_modem_levels_and_clears_their_changes(rt: HostRuntime) -> 
 // Six cycles to a tick, with a reset before each of them.
 #[test]
 fn a_reset_leaves_the_count(rt: HostRuntime) -> Result<(), Fail> {
-    for channel in CHANNELS {
+    for channel in ChannelId::BOTH {
         for place in 0..6 {
             let mut bench = Bench::new(channel);
             bench.write(CR, 0x0e)?;
@@ -137,16 +138,16 @@ fn a_reset_leaves_the_format_and_the_rate(rt: HostRuntime) -> Result<(), Fail> {
             Read(CSR, 0x43),
             // rate code 15, seven bits, odd parity, two stop bits
             Write(TDR, 0x41),
-            SendsBits(11, 0b0_1000001_1_11),
+            SendsBits(Bits(11, 0b0_1000001_1_11)),
             Write(TDR, 0x41),
-            SendsBits(1, 0b0),
+            SendsBits(Bits(1, 0b0)),
             // bit 4
             Modem(ModemLine::Cts, HIGH),
             Read(ISR, 0xa0),
             Read(ISR, 0x00),
             // bit 6: ACR is written, and the receiver does not sleep
             Write(ACR, 0x00),
-            HearsBits(10, 0b0_1000001_1_1),
+            HearsBits(Bits(10, 0b0_1000001_1_1)),
             Kept(0x41),
         ],
     )
@@ -194,7 +195,7 @@ fn a_reset_clears_acr(rt: HostRuntime) -> Result<(), Fail> {
             Sends(LOW, 166),
             Sends(HIGH, 100),
             // odd parity: 1 is right for $41
-            HearsBits(11, 0b0_10000010_1_1),
+            HearsBits(Bits(11, 0b0_10000010_1_1)),
             Kept(0x41),
             Read(ISR, 0xc1),
         ],
@@ -208,7 +209,7 @@ fn a_reset_clears_the_errors(rt: HostRuntime) -> Result<(), Fail> {
         &rt,
         0xec,
         &[
-            HearsBits(11, 0b0_10000010_1_0),
+            HearsBits(Bits(11, 0b0_10000010_1_0)),
             Kept(0x41),
             Hears(HIGH, 1),
             Hears(LOW, 176),
@@ -219,7 +220,7 @@ fn a_reset_clears_the_errors(rt: HostRuntime) -> Result<(), Fail> {
             Read(ISR, 0xc1),
             Read(CSR, 0x43),
             Hears(HIGH, 1),
-            HearsBits(11, 0b0_10000010_0_1),
+            HearsBits(Bits(11, 0b0_10000010_0_1)),
             Lost(0x41),
             Read(ISR, 0xc3),
             Reset,

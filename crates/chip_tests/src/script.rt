@@ -3,6 +3,7 @@
 use crate::bench::*;
 use std::process::Abort;
 use std::test::*;
+use terms::channel_id::ChannelId;
 use terms::modem_line::ModemLine;
 use terms::note::{ReadNote, WriteNote};
 use terms::register::Register;
@@ -24,7 +25,7 @@ pub(crate) enum Step {
     Irq(bool),
     // a level on RxD for so many receiver ticks; so many bits; a word in a plain frame
     Hears(bool, u16),
-    HearsBits(u8, u16),
+    HearsBits(Bits),
     HearsWord(u8),
     // how the last one was reported
     Kept(u8),
@@ -34,7 +35,7 @@ pub(crate) enum Step {
     Silent,
     // a level on TxD for so many transmitter ticks; so many bits; a word in a plain frame
     Sends(bool, u16),
-    SendsBits(u8, u16),
+    SendsBits(Bits),
     SendsWord(u8),
 }
 
@@ -47,7 +48,7 @@ fn take(
 ) -> Result<Option<Report>, Fail> {
     let due = match step {
         Step::Hears(level, ticks) => return Ok(bench.hear(level, ticks)),
-        Step::HearsBits(count, bits) => return Ok(bench.hears_bits(count, bits)),
+        Step::HearsBits(bits) => return Ok(bench.hears_bits(bits)),
         Step::HearsWord(word) => return Ok(bench.hears_word(word)),
         Step::Kept(word) => ended(ReportKind::Kept, word),
         Step::Lost(word) => ended(ReportKind::Lost, word),
@@ -92,7 +93,7 @@ fn access(rt: &impl Abort, bench: &mut Bench, step: Step) -> Result<(), Fail> {
         Step::Reset => bench.reset(),
         Step::Irq(level) => return bench.irq_is(rt, level),
         Step::Sends(level, ticks) => return bench.sends_level(rt, level, ticks),
-        Step::SendsBits(count, bits) => return bench.sends_bits(rt, count, bits),
+        Step::SendsBits(bits) => return bench.sends_bits(rt, bits),
         Step::SendsWord(word) => return bench.sends_frame(rt, plain(word)),
         _ => {}
     }
@@ -110,7 +111,7 @@ pub(crate) fn play(rt: &impl Abort, bench: &mut Bench, steps: &[Step]) -> Result
 
 // Plays a script on each channel of a chip, with rate code 15 and the given FR.
 pub(crate) fn play_at(rt: &impl Abort, fr: u8, steps: &[Step]) -> Result<(), Fail> {
-    for channel in CHANNELS {
+    for channel in ChannelId::BOTH {
         let mut bench = Bench::clocked(channel, fr)?;
         play(rt, &mut bench, steps)?;
     }

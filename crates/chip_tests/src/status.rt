@@ -3,6 +3,7 @@ use crate::bench::*;
 use crate::script::Step::*;
 use crate::script::play_at;
 use std::test::*;
+use terms::channel_id::ChannelId;
 use terms::modem_line::ModemLine;
 
 #[test]
@@ -130,11 +131,11 @@ fn isr_bit_2_is_a_wrong_parity(rt: HostRuntime) -> Result<(), Fail> {
         &rt,
         0xec,
         &[
-            HearsBits(11, 0b0_10000010_0_1),
+            HearsBits(Bits(11, 0b0_10000010_0_1)),
             Kept(0x41),
             Read(ISR, 0xc1),
             Fresh(0x41),
-            HearsBits(11, 0b0_10000010_1_1),
+            HearsBits(Bits(11, 0b0_10000010_1_1)),
             Kept(0x41),
             // a read of ISR leaves it, a read of RDR clears it
             Read(ISR, 0xc5),
@@ -142,9 +143,9 @@ fn isr_bit_2_is_a_wrong_parity(rt: HostRuntime) -> Result<(), Fail> {
             Fresh(0x41),
             Read(ISR, 0xc0),
             // a lost word does not touch it
-            HearsBits(11, 0b0_10000010_0_1),
+            HearsBits(Bits(11, 0b0_10000010_0_1)),
             Kept(0x41),
-            HearsBits(11, 0b0_10000010_1_1),
+            HearsBits(Bits(11, 0b0_10000010_1_1)),
             Lost(0x41),
             Read(ISR, 0xc3),
         ],
@@ -157,7 +158,7 @@ fn isr_bit_1_and_csr_bit_7_are_a_framing_error(rt: HostRuntime) -> Result<(), Fa
         &rt,
         0xe0,
         &[
-            HearsBits(10, 0b0_10000010_0),
+            HearsBits(Bits(10, 0b0_10000010_0)),
             Kept(0x41),
             Read(ISR, 0xc3),
             Read(CSR, 0xc0),
@@ -169,7 +170,7 @@ fn isr_bit_1_and_csr_bit_7_are_a_framing_error(rt: HostRuntime) -> Result<(), Fa
             Read(CSR, 0x40),
             // so does the next word that is kept
             Hears(HIGH, 1),
-            HearsBits(10, 0b0_10000010_0),
+            HearsBits(Bits(10, 0b0_10000010_0)),
             Kept(0x41),
             Write(CDR, 0x42),
             Read(CSR, 0xc0),
@@ -288,7 +289,7 @@ fn csr_bit_6_is_tdre_with_a_resting_transmitter(rt: HostRuntime) -> Result<(), F
 
 #[test]
 fn csr_bits_1_and_0_are_those_of_fr(rt: HostRuntime) -> Result<(), Fail> {
-    for channel in CHANNELS {
+    for channel in ChannelId::BOTH {
         let mut bench = Bench::clocked(channel, 0xe0)?;
         for fr in 0x80..=0xff {
             bench.write(FR, fr)?;

@@ -1,7 +1,6 @@
 -- The registers by their names.
-use Rattle.std.specs.Prelude.{ℕ, ◌%◌, cond, ◌==◌}
 use Rattle.terms.specs.declared.register.Register.{Register}
-use Rattle.terms.specs.declared.register.Register.TheVariants.{Interrupt, Control, Data}
+use Rattle.terms.specs.declared.register.Register.TheVariants.{Interrupt, Control, Auxiliary, Data}
 use Rattle.loopback.specs.declared.names.Name.{Name}
 use Rattle.loopback.specs.declared.names.Name.TheVariants.{Isr, Ier, Csr, Cr, Fr, Rdr, Tdr}
 
@@ -15,6 +14,9 @@ address_of Fr = Control
 address_of Rdr = Data
 address_of Tdr = Data
 
--- what a read at a select reaches; there is nothing to read at selects 2 and 6
-abbrev pub read_name : ℕ → Name
-read_name s = cond (s % 4 == 0) Isr (cond (s % 4 == 1) Csr Rdr)
+-- what a read at a register address reaches; there is nothing to read at the auxiliary one
+abbrev pub read_name : Register → Name
+read_name Interrupt = Isr
+read_name Control = Csr
+read_name Auxiliary = Rdr
+read_name Data = Rdr

@@ -9,14 +9,18 @@ use Rattle.terms.specs.declared.note.WriteNote.TheVariants.{Stored, Replaced}
 use Rattle.terms.specs.declared.report.ReportKind.{ReportKind}
 use Rattle.terms.specs.declared.report.ReportKind.TheVariants.{Break, Passed, Lost, Kept}
 use Rattle.dacia.specs.Separation.{same}
+use Rattle.loopback.specs.declared.tally.Count.{Count}
 use Rattle.loopback.specs.declared.tally.Counts.{Counts}
 
 -- one more
-abbrev pub more : ℕ → ℕ
-more n = min (n + 1) (2 ^ 32 - 1)
+abbrev pub more : Count → Count
+more c = record { 0 = min (c.0 + 1) (2 ^ 32 - 1) }
+
+abbrev pub zero : Count
+zero = record { 0 = 0 }
 
 abbrev pub no_counts : Counts
-no_counts = record { written = 0; replaced = 0; kept = 0; lost = 0; read = 0 }
+no_counts = record { written = zero; replaced = zero; kept = zero; lost = zero; read = zero }
 
 -- only a write to TDR has a note
 abbrev pub write_counted : Option WriteNote → Counts → Counts

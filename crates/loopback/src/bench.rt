@@ -1,8 +1,11 @@
 // A board on the bench: it is done to as a step says, and each thing that happens is told in a line.
-ghost use Rattle.std.specs.Prelude.{◌≡◌};
-ghost use Rattle.dacia.specs.Separation.{answer_of};
+ghost use Rattle.std.specs.Prelude.{◌≡◌, true, Ok, IfOk};
+ghost use Rattle.std.specs.Borrow.{sem};
+ghost use Rattle.terms.specs.Refusal.{refused_by};
+ghost use Rattle.dacia.specs.Access.{place_at, read_opened, opens_by};
 ghost use Rattle.terms.specs.declared.channel_id.ChannelId.TheVariants.{One, Two};
-ghost use Rattle.loopback.specs.Tally.{report_to};
+ghost use Rattle.loopback.specs.Bench.{LendsTold, other, told_of};
+ghost use Rattle.loopback.specs.Tally.{no_counts, report_to};
 
 use crate::names::{Level, Name, Note, Shown, Word};
 use crate::tally::Tally;
@@ -10,14 +13,16 @@ use anyhow::anyhow;
 use board::board::Board;
 use board::record::Record;
 use channel::channel::ChannelAnswer;
-use dacia::access::ReadAccess;
+use dacia::access::{Place, ReadAccess};
 use dacia::chip::ChipAnswer;
 use line::joint::Joint;
 use line::table_line::TableLine;
 use line::wire::Wire;
+use std::alloc::Global;
 use std::io;
 use terms::channel_id::ChannelId;
 use terms::modem_line::ModemLine;
+use terms::refusal::Refusal;
 use terms::report::{Report, ReportKind};
 
 // The most cycles to wait for something.
@@ -26,6 +31,7 @@ const PATIENCE: u32 = 10_000;
 // Room for a sweep of 2,048 cycles.
 const ROOM: usize = 4096;
 
+// What the room has at first: a sweep writes into records that it is lent.
 const BLANK: Record = Record {
     cycle: 0,
     channel: ChannelId::One,
@@ -49,13 +55,6 @@ pub(crate) enum Step {
     Sweep(u16, usize),
 }
 
-// The IRQ levels that were told last.
-#[derive(Clone, Copy)]
-struct Irqs {
-    one: bool,
-    two: bool,
-}
-
 #[derive(Drop)]
 pub(crate) struct Bench {
     board: Board<Joint<TableLine, TableLine>, Wire>,
@@ -63,14 +62,19 @@ pub(crate) struct Bench {
     log: Log,
 }
 
-// What was told so far: the cycle that is reached, and what became of the words.
+// What was told so far: the cycle that is reached, and what was told of either channel.
 #[derive(Drop)]
 struct Log {
     cycle: u32,
-    irqs: Irqs,
-    // the words from channel 1 to channel 2, and those from 2 to 1; which of the two an access, a report or a read concerns differs
-    there: Tally,
-    back: Tally,
+    one: Told,
+    two: Told,
+}
+
+// What was told of a channel: the level of its IRQ, and what became of the words that it sends.
+#[derive(Drop)]
+struct Told {
+    irq: bool,
+    sent: Tally,
 }
 
 impl Bench {
@@ -82,12 +86,8 @@ impl Bench {
             records: vec![in rt.alloc(); BLANK; ROOM]?,
             log: Log {
                 cycle: 0,
-                irqs: Irqs {
-                    one: true,
-                    two: true,
-                },
-                there: Tally::new(rt.alloc()),
-                back: Tally::new(rt.alloc()),
+                one: Told::new(rt.alloc()),
+                two: Told::new(rt.alloc()),
             },
         })
     }
@@ -143,10 +143,7 @@ impl Bench {
         why: &str,
     ) -> anyhow::Result<()> {
         let note = self.board.write(name.select(channel), byte)?;
-        match channel {
-            ChannelId::One => self.log.there.count_write(note),
-            ChannelId::Two => self.log.back.count_write(note),
-        }
+        self.log.told_mut(channel).sent.count_write(note);
         println!(rt;
             "{:>5}  write {name}{} {}, note {}: {why}",
             self.log.cycle,
@@ -159,10 +156,7 @@ impl Bench {
 
     fn read(&mut self, rt: &HostRuntime, channel: ChannelId, name: Name) -> anyhow::Result<()> {
         let reading = self.board.read(name.select(channel))?;
-        match channel {
-            ChannelId::One => self.log.back.count_read(reading)?,
-            ChannelId::Two => self.log.there.count_read(reading)?,
-        }
+        self.log.told_mut(other(channel)).sent.count_read(reading)?;
         let byte = reading.byte;
         println!(rt;
             "{:>5}  read {name}{}: {}, note {}",
@@ -177,19 +171,19 @@ impl Bench {
     // A read in its two steps: it is opened, and works when it is ended.
     fn read_at(&mut self, rt: &HostRuntime, select: u8) -> io::Result<()> {
         let cycle = self.log.cycle;
-        let access = match ReadAccess::open(select) {
-            Ok(access) => access,
+        let (place, access) = match opened(select) {
+            Ok(opened) => opened,
             Err(refusal) => {
                 return println!(rt; "{cycle:>5}  open a read at select {select}: {refusal}");
             }
         };
         match self.board.end_read(access) {
             Ok(reading) => {
-                let name = Name::read_at(select);
+                let name = Name::read_at(place.register);
                 let byte = reading.byte;
                 println!(rt;
                     "{cycle:>5}  open and end a read at select {select}, {name}{}: {}, note {}",
-                    select / 4 + 1,
+                    place.channel.number(),
                     Shown { name, byte },
                     Note(reading.note)
                 )
@@ -218,18 +212,19 @@ impl Bench {
 
     // A line for each IRQ that is not as it was told last.
     fn tell_irqs(&mut self, rt: &HostRuntime) -> io::Result<()> {
-        let irqs = Irqs {
-            one: self.board.irq(ChannelId::One),
-            two: self.board.irq(ChannelId::Two),
-        };
-        self.log.tell_irqs(rt, irqs)
+        for channel in ChannelId::BOTH {
+            self.log.tell_irq(rt, channel, self.board.irq(channel))?;
+        }
+        Ok(())
     }
 
     fn cycle(&mut self, rt: &HostRuntime) -> io::Result<ChipAnswer> {
         let answer = self.board.cycle();
         self.log.cycle = self.log.cycle.saturating_add(1);
-        self.log.tell_report(rt, ChannelId::One, answer.one.report)?;
-        self.log.tell_report(rt, ChannelId::Two, answer.two.report)?;
+        for channel in ChannelId::BOTH {
+            let report = answer.of(channel).report;
+            self.log.tell_report(rt, channel, report)?;
+        }
         self.tell_irqs(rt)?;
         Ok(answer)
     }
@@ -254,7 +249,7 @@ impl Bench {
     {
         for _ in 0..PATIENCE {
             let answer = self.cycle(rt)?;
-            if due(of(channel, answer)) {
+            if due(answer.of(channel)) {
                 return Ok(());
             }
         }
@@ -290,44 +285,60 @@ impl Bench {
 
     pub(crate) fn summary(&self, rt: &HostRuntime) -> io::Result<()> {
         println!(rt; "After {} cycles:", self.log.cycle)?;
-        self.log.there.tell(rt, ChannelId::One, ChannelId::Two)?;
-        self.log.back.tell(rt, ChannelId::Two, ChannelId::One)
+        self.log.one.sent.tell(rt, ChannelId::One, ChannelId::Two)?;
+        self.log.two.sent.tell(rt, ChannelId::Two, ChannelId::One)
+    }
+}
+
+impl Told {
+    // Of a channel of a new board, which asks for nothing.
+    fn new(heap: Global) -> Told
+        ensures irq { result.irq ≡ true }
+        ensures counts { result.sent.counts ≡ no_counts }
+    {
+        Told {
+            irq: true,
+            sent: Tally::new(heap),
+        }
     }
 }
 
 impl Log {
-    fn tell_irqs(&mut self, rt: &HostRuntime, irqs: Irqs) -> io::Result<()> {
-        let before = self.irqs;
-        self.irqs = irqs;
-        self.tell_irq(rt, 1, before.one, irqs.one)?;
-        self.tell_irq(rt, 2, before.two, irqs.two)
+    fn told_mut(&mut self, channel: ChannelId) -> &mut Told
+        ensures* writes_back { sem 𝓛 (LendsTold channel self.entry result) }
+        ensures value { result.now ≡ told_of channel self.old }
+    {
+        match channel {
+            ChannelId::One => &mut self.one,
+            ChannelId::Two => &mut self.two,
+        }
     }
 
-    fn tell_irq(&self, rt: &HostRuntime, number: u8, before: bool, after: bool) -> io::Result<()> {
-        if before == after {
+    fn tell_irq(&mut self, rt: &HostRuntime, channel: ChannelId, irq: bool) -> io::Result<()> {
+        let told = self.told_mut(channel);
+        if told.irq == irq {
             return Ok(());
         }
-        let why = if after {
+        told.irq = irq;
+        let why = if irq {
             "no request is left"
         } else {
             "there is a request"
         };
         println!(rt;
-            "{:>5}  IRQ{number} goes {}: {why}",
+            "{:>5}  IRQ{} goes {}: {why}",
             self.cycle,
-            Level(after)
+            channel.number(),
+            Level(irq)
         )
     }
 
     // A report of channel 2 is of a word from channel 1, and the other way round.
     fn count_report(&mut self, channel: ChannelId, kind: ReportKind)
-        ensures there { self.new.there.counts ≡ report_to Two channel kind self.old.there.counts }
-        ensures back { self.new.back.counts ≡ report_to One channel kind self.old.back.counts }
+        ensures one { self.new.one.sent.counts ≡ report_to Two channel kind self.old.one.sent.counts }
+        ensures two { self.new.two.sent.counts ≡ report_to One channel kind self.old.two.sent.counts }
     {
-        match channel {
-            ChannelId::One => self.back.count_report(kind),
-            ChannelId::Two => self.there.count_report(kind),
-        }
+        self.told_mut(other(channel)).sent.count_report(kind);
     }
 
     fn tell_report(
@@ -366,12 +377,23 @@ impl Log {
     }
 }
 
-// The part of a cycle's answer that is the channel's.
-fn of(channel: ChannelId, answer: ChipAnswer) -> ChannelAnswer
-    ensures { result ≡ answer_of channel answer }
+// The channel that a channel talks to.
+fn other(channel: ChannelId) -> ChannelId
+    ensures { result ≡ other channel }
 {
     match channel {
-        ChannelId::One => answer.one,
-        ChannelId::Two => answer.two,
+        ChannelId::One => ChannelId::Two,
+        ChannelId::Two => ChannelId::One,
     }
+}
+
+// A read that is opened at a select, and the place of it.
+fn opened(select: u8) -> Result<(Place, ReadAccess), Refusal>
+    ensures place { IfOk result (λ r. Ok r.0 ≡ place_at select) }
+    ensures access { IfOk result (λ r. Ok r.1 ≡ read_opened select) }
+    ensures refusals { refused_by result ≡ opens_by select }
+{
+    let place = Place::try_from(select)?;
+    let access = ReadAccess::open(select)?;
+    Ok((place, access))
 }

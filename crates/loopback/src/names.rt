@@ -31,14 +31,14 @@ impl Name {
         }
     }
 
-    // What a read at a select reaches; there is nothing to read at selects 2 and 6.
-    pub(crate) fn read_at(select: u8) -> Name
-        ensures { result ≡ read_name select }
+    // What a read at a register address reaches; there is nothing to read at the auxiliary one.
+    pub(crate) fn read_at(register: Register) -> Name
+        ensures { result ≡ read_name register }
     {
-        match select % 4 {
-            0 => Name::Isr,
-            1 => Name::Csr,
-            _ => Name::Rdr,
+        match register {
+            Register::Interrupt => Name::Isr,
+            Register::Control => Name::Csr,
+            Register::Auxiliary | Register::Data => Name::Rdr,
         }
     }
 

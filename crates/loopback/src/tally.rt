@@ -1,20 +1,38 @@
 // What became of the words of one direction.
 ghost use Rattle.std.specs.Prelude.{◌≡◌, [], is_ok, string_bytes};
-ghost use Rattle.loopback.specs.Tally.{no_counts, write_counted, report_counted, read_counted, read_text};
+ghost use Rattle.loopback.specs.Tally.{no_counts, write_counted, report_counted, read_counted, read_text, more};
 
 use std::alloc::{AllocError, Global};
-use std::io;
+use std::{fmt, io};
 use terms::channel_id::ChannelId;
 use terms::note::{ReadNote, Reading, WriteNote};
 use terms::report::ReportKind;
 
-#[derive(Clone, Copy)]
+// A count, which stops at the greatest number of its type.
+#[derive(Clone, Copy, Default)]
+struct Count(u32);
+
+impl Count {
+    fn add_one(&mut self)
+        ensures { self.new ≡ more self.old }
+    {
+        self.0 = self.0.saturating_add(1);
+    }
+}
+
+impl fmt::Display for Count {
+    fn fmt<W: fmt::Write>(&self, f: &mut fmt::Formatter<W>) -> fmt::Result {
+        write!(f, "{}", self.0)
+    }
+}
+
+#[derive(Clone, Copy, Default)]
 pub(crate) struct Counts {
-    written: u32,
-    replaced: u32,
-    kept: u32,
-    lost: u32,
-    read: u32,
+    written: Count,
+    replaced: Count,
+    kept: Count,
+    lost: Count,
+    read: Count,
 }
 
 // The counts, and the text of the words that were read.
@@ -30,13 +48,7 @@ impl Tally {
         ensures text { string_bytes result.text ≡ [] }
     {
         Tally {
-            counts: Counts {
-                written: 0,
-                replaced: 0,
-                kept: 0,
-                lost: 0,
-                read: 0,
-            },
+            counts: Counts::default(),
             text: String::new(heap),
         }
     }
@@ -48,10 +60,10 @@ impl Tally {
     {
         match note {
             None => {}
-            Some(WriteNote::Stored) => self.counts.written = self.counts.written.saturating_add(1),
+            Some(WriteNote::Stored) => self.counts.written.add_one(),
             Some(WriteNote::Replaced) => {
-                self.counts.written = self.counts.written.saturating_add(1);
-                self.counts.replaced = self.counts.replaced.saturating_add(1);
+                self.counts.written.add_one();
+                self.counts.replaced.add_one();
             }
         }
     }
@@ -61,8 +73,8 @@ impl Tally {
         ensures text { string_bytes self.new.text ≡ string_bytes self.old.text }
     {
         match kind {
-            ReportKind::Kept => self.counts.kept = self.counts.kept.saturating_add(1),
-            ReportKind::Lost => self.counts.lost = self.counts.lost.saturating_add(1),
+            ReportKind::Kept => self.counts.kept.add_one(),
+            ReportKind::Lost => self.counts.lost.add_one(),
             _ => {}
         }
     }
@@ -73,7 +85,7 @@ impl Tally {
         ensures text { string_bytes self.new.text ≡ read_text reading.note reading.byte (is_ok result) (string_bytes self.old.text) }
     {
         if let Some(ReadNote::Fresh) = reading.note {
-            self.counts.read = self.counts.read.saturating_add(1);
+            self.counts.read.add_one();
             self.text.push(char::from(reading.byte))?;
         }
         Ok(())

@@ -1,6 +1,6 @@
 -- The reader's turns: the bytes of the first line, and one line after the other.
-use Rattle.std.proofs.Common.{◌≡◌, ℕ, suc, ◌+◌, ◌<◌, ◌≤◌, leb, List, [], ◌∷◌, ◌++◌, length, get_or, drop, Ok, Err, Result, Vec, sym, refl, ap, ◌∙◌, append-nil, add-one, arith}
-use Rattle.std.proofs.lemmas.List.{drop_more, nil_from_length}
+use Rattle.std.proofs.Common.{◌≡◌, ℕ, suc, ◌+◌, ◌<◌, ◌≤◌, leb, List, [], ◌∷◌, ◌++◌, length, drop, Ok, Err, Result, Vec, sym, ap, ◌∙◌, subst, append-nil, add-one, arith}
+use Rattle.std.proofs.lemmas.List.{nil_from_length}
 use Rattle.std.proofs.lemmas.Bool.{cond-true, cond-false, le-leb, lt-leb}
 use Rattle.std.specs.Result.{IsErrAnd}
 use Rattle.std.specs.declared.alloc.Global.{Global}
@@ -25,27 +25,27 @@ gives_fault (Ok v) f a h e = absurd h
 gives_fault (Err (Faulty g)) f a h e = cc
 gives_fault (Err OutOfMemory) f a h e = tt
 
--- the first line, of which i bytes are read
-abbrev pub Headed : Word → ℕ → Type 0
-Headed w i = first_line_at w ≡ line_at (word (drop i first_word) (ends [])) w i
+-- the first line, of which bs is left to read, from place i on
+abbrev pub Headed : Word → ℕ → List ℕ → Type 0
+Headed w i bs = (first_line_at w ≡ line_at (word bs (ends [])) w i) × (i + length bs ≡ 8)
 
-pub first_none : (w : Word) → Headed w 0
+pub first_none : (w : Word) (i : ℕ) (bs : List ℕ) → i ≡ 0 → bs ≡ first_word → Headed w i bs
 unfolding first_line_at
-first_none w = refl
+first_none w i bs start all = (ap (line_at first_line w) (sym start) ∙ ap (λ zs. line_at (word zs (ends [])) w i) (sym all), omega (arith, start, ap length all))
 
-first_byte : (w : Word) (i : ℕ) → i < 8 → Headed w i →
-    first_line_at w ≡ and_then (spot_at (only (get_or first_word i 0)) w i) (λ _. line_at (word (drop (i + 1) first_word) (ends [])) w (i + 1))
-first_byte w i lt h =
-    h ∙ ap (λ bs. line_at (word bs (ends [])) w i) (drop_more first_word i 0 lt)
-    ∙ ap (λ j. and_then (spot_at (only (get_or first_word i 0)) w i) (λ _. line_at (word (drop (i + 1) first_word) (ends [])) w j)) (sym (add-one i))
+first_byte : (w : Word) (k i x : ℕ) (bs cs : List ℕ) → i ≡ k → bs ≡ x ∷ cs → Headed w k bs →
+    first_line_at w ≡ and_then (spot_at (only x) w i) (λ _. line_at (word cs (ends [])) w (suc i))
+first_byte w k i x bs cs same e h = h.0 ∙ ap (line_at (word bs (ends [])) w) (sym same) ∙ ap (λ zs. line_at (word zs (ends [])) w i) e
 
-pub first_more : (w : Word) (i : ℕ) (u : Unit {0}) → i < 8 → Ok u ≡ spot_at (only (get_or first_word i 0)) w i → Headed w i → Headed w (i + 1)
-first_more w i u lt e h =
-    first_byte w i lt h ∙ sym (ap (λ r. and_then r (λ _. line_at (word (drop (i + 1) first_word) (ends [])) w (i + 1))) e)
+pub first_more : (w : Word) (k i j x : ℕ) (bs cs : List ℕ) (u : Unit {0}) → i ≡ k → bs ≡ x ∷ cs → j ≡ i + 1 → Ok u ≡ spot_at (only x) w i → Headed w k bs → Headed w j cs
+first_more w k i j x bs cs u same e next here h =
+    let after = first_byte w k i x bs cs same e h ∙ sym (ap (λ r. and_then r (λ _. line_at (word cs (ends [])) w (suc i))) here) in
+    let long : k + length (x ∷ cs) ≡ 8 = subst (λ zs. k + length zs ≡ 8) e h.1 in
+    (after ∙ ap (line_at (word cs (ends [])) w) (omega (arith, next, same)), omega (arith, next, long))
 
-pub first_stop : (w : Word) (i : ℕ) (f : Fault) → i < 8 → Err f ≡ spot_at (only (get_or first_word i 0)) w i → Headed w i → Err f ≡ first_line_at w
-first_stop w i f lt e h =
-    sym (first_byte w i lt h ∙ sym (ap (λ r. and_then r (λ _. line_at (word (drop (i + 1) first_word) (ends [])) w (i + 1))) e))
+pub first_stop : (w : Word) (k i x : ℕ) (bs cs : List ℕ) (f : Fault) → i ≡ k → bs ≡ x ∷ cs → Err f ≡ spot_at (only x) w i → Headed w k bs → Err f ≡ first_line_at w
+first_stop w k i x bs cs f same e here h =
+    sym (first_byte w k i x bs cs same e h ∙ sym (ap (λ r. and_then r (λ _. line_at (word cs (ends [])) w (suc i))) here))
 
 -- the lines: a is the whole answer, ps is what was read, and bs is left from line l on
 module _ (a : Result (List Placed) Fault) (ps : List Placed) (l : ℕ) (bs : List ℕ) (inv : a ≡ before ps (read begins l 1 bs)) where

@@ -46,8 +46,8 @@ fn first_line(word: Word<'_>) -> Result<(), Fault>
     ensures value { headed result ≡ first_line_at word.entry }
     ensures within { OnOk result (9 ≤ length word.entry.bytes.now) }
 {
-    for (at, byte) in FIRST_LINE.iter().enumerate() {
-        word.only(at as u8, *byte)?;
+    for (at, byte) in (0..).zip(FIRST_LINE) {
+        word.only(at, byte)?;
     }
     word.only(8, b'\n')
 }

@@ -1,6 +1,7 @@
 // The board: the chip, and a line each way between its channels.
 
 use super::chip::{Answer, Chip, Pins};
+use super::clock::Ticks;
 use super::delay::Delay;
 use super::outcome::{Event, Refusal, SweepError};
 use super::side::{Both, Side};
@@ -47,8 +48,7 @@ impl Board {
         let one = self.to_one.pass(self.chip.txd(Side::Two));
         self.chip.cycle(Pins {
             rxd: Both { one, two },
-            rxc: false,
-            txc: false,
+            marks: Ticks::default(),
         })
     }
 
@@ -59,9 +59,10 @@ impl Board {
         room: usize,
         log: &mut Vec<Event>,
     ) -> Result<(), SweepError> {
-        if cycles == 0 || cycles > LONGEST {
+        if !(1..=LONGEST).contains(&cycles) {
             return Err(Refusal::BadSweepLength.into());
         }
+        // a cast, as `usize` has no `From<u32>`
         if room < 2 * cycles as usize {
             return Err(Refusal::TooFewRecords.into());
         }

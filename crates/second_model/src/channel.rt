@@ -5,7 +5,7 @@ use super::clock::{Clock, Ticks};
 use super::inputs::{Input, ModemInputs};
 use super::outcome::{ReadNote, ReadOut, Report, WriteNote};
 use super::receiver::{Hearing, Receiver};
-use super::registers::Settings;
+use super::registers::{Acr, Settings};
 use super::sources::{Interrupts, Source, Sources};
 use super::transmitter::{Transmitter, Work};
 use super::words::{ErrorFlags, Inbox};
@@ -14,8 +14,7 @@ use super::words::{ErrorFlags, Inbox};
 #[derive(Drop)]
 pub struct Channel {
     settings: Settings,
-    send_break: bool,
-    show_parity_bit: bool,
+    acr: Acr,
     inputs: ModemInputs,
     interrupts: Interrupts,
     outbox: Option<u8>,
@@ -45,8 +44,7 @@ impl Channel {
     pub(crate) fn new() -> Channel {
         Channel {
             settings: Settings::new(),
-            send_break: false,
-            show_parity_bit: false,
+            acr: Acr::default(),
             inputs: ModemInputs::default(),
             interrupts: Interrupts::default(),
             outbox: None,
@@ -61,13 +59,12 @@ impl Channel {
     pub(crate) fn reset(&mut self) {
         self.settings.dtr = true;
         self.settings.rts = true;
-        self.send_break = false;
-        self.show_parity_bit = false;
+        self.acr = Acr::default();
         self.inputs.clear_changes();
         self.interrupts = Interrupts::default();
         self.inbox.word = 0;
         self.inbox.errors = ErrorFlags::default();
-        self.inbox.asleep = false;
+        self.inbox.wakes_at = None;
     }
 
     // Bits 6-0 of ISR.
@@ -103,7 +100,7 @@ impl Channel {
         self.inputs.clear_changes();
         self.interrupts.drop_requests();
         ReadOut {
-            byte: sources.byte() | if any { 0x80 } else { 0 },
+            byte: sources.byte() | u8::from(any) << 7,
             note: None,
         }
     }
@@ -160,13 +157,11 @@ impl Channel {
     // Writes CDR or ACR.
     pub(crate) fn write_auxiliary(&mut self, byte: u8) {
         if self.settings.auxiliary_is_acr {
-            self.send_break = byte & 0x02 != 0;
-            self.show_parity_bit = byte & 0x01 != 0;
+            self.acr = Acr::from(byte);
             return;
         }
         self.act(|channel| {
-            channel.inbox.compare = byte;
-            channel.inbox.asleep = true;
+            channel.inbox.wakes_at = Some(byte);
             channel.inbox.full = false;
         });
     }
@@ -200,12 +195,12 @@ impl Channel {
 
     fn receive(&mut self, rxd: bool) -> Option<Report> {
         let heard = self.receiver.tick(rxd, self.settings.layout)?;
-        Some(self.act(|channel| { channel.inbox.end_frame(heard, channel.show_parity_bit) }))
+        Some(self.act(|channel| { channel.inbox.end_frame(heard, channel.acr.show_parity_bit) }))
     }
 
     fn transmit(&mut self) {
         let work = Work {
-            break_wanted: self.send_break,
+            break_wanted: self.acr.send_break,
             word: if self.inputs.at(Input::Cts).high {
                 None
             } else {
@@ -235,16 +230,16 @@ impl Channel {
             requests: self.interrupts.requests,
             flags: self.sources(),
             errors: self.inbox.errors,
-            asleep: self.inbox.asleep,
-            show_parity_bit: self.show_parity_bit,
+            asleep: self.inbox.wakes_at.is_some(),
+            show_parity_bit: self.acr.show_parity_bit,
             tdr_full: self.outbox.is_some(),
             transmitter: &self.transmitter,
             hearing,
             false_starts: self.receiver.false_starts(),
-            other_format: match hearing {
-                Hearing::Gathers(frame) => frame.layout().differs(self.settings.layout),
-                _ => false,
-            },
+            other_format: matches!(
+                hearing,
+                Hearing::Gathers(frame) if frame.layout().differs(self.settings.layout)
+            ),
         }
     }
 }

@@ -32,12 +32,11 @@ pub struct Access {
     register: Register,
 }
 
-// What goes into a cycle.
+// What goes into a cycle: the levels of RxD, and what RxC and TxC mark.
 #[derive(Clone, Copy, Debug)]
 pub struct Pins {
     pub rxd: Both<bool>,
-    pub rxc: bool,
-    pub txc: bool,
+    pub marks: Ticks,
 }
 
 // What a cycle answers for one channel.
@@ -71,16 +70,14 @@ impl Chip {
     // A newly reset chip.
     pub fn new() -> Chip {
         let mut chip = Chip {
-            channels: Both {
-                one: Channel::new(),
-                two: Channel::new(),
-            },
+            channels: Both::each(|_| Channel::new()),
         };
         chip.reset();
         chip
     }
 
-    // A newly reset chip with these CR and FR values in both channels, whose RDRs were read.
+    // A newly reset chip with these CR and FR values in both channels, whose RDRs were read. The two values are no struct,
+    // as each is written alone and nothing else takes both.
     pub(crate) fn set_up(control: u8, format: u8) -> Chip {
         let mut chip = Chip::new();
         for side in Side::BOTH {
@@ -94,8 +91,9 @@ impl Chip {
 
     // A reset of both channels.
     pub fn reset(&mut self) {
-        self.channels.one.reset();
-        self.channels.two.reset();
+        for side in Side::BOTH {
+            self.channels.at_mut(side).reset();
+        }
     }
 
     // Ends a read.
@@ -128,21 +126,12 @@ impl Chip {
 
     // One cycle.
     pub fn cycle(&mut self, pins: Pins) -> Both<Answer> {
-        Both {
-            one: self.cycle_of(Side::One, pins),
-            two: self.cycle_of(Side::Two, pins),
-        }
+        Both::each(|side| self.cycle_of(side, pins))
     }
 
     fn cycle_of(&mut self, side: Side, pins: Pins) -> Answer {
         let channel = self.channels.at_mut(side);
-        let report = channel.cycle(
-            *pins.rxd.at(side),
-            Ticks {
-                receiver: pins.rxc,
-                transmitter: pins.txc,
-            },
-        );
+        let report = channel.cycle(*pins.rxd.at(side), pins.marks);
         Answer {
             txd: channel.txd(),
             irq: channel.irq(),

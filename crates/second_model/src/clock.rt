@@ -9,8 +9,8 @@ const RATES: [u32; 15] = [
 // Ticks in a second at one baud, in hundredths: 3,686,400 / 16.
 const TICKS: u32 = 23_040_000;
 
-// Which parts of a channel tick in a cycle.
-#[derive(Clone, Copy, PartialEq, Eq, Debug)]
+// Which parts of a channel tick in a cycle, or are marked to tick.
+#[derive(Clone, Copy, PartialEq, Eq, Debug, Default)]
 pub struct Ticks {
     pub receiver: bool,
     pub transmitter: bool,

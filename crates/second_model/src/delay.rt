@@ -1,17 +1,14 @@
 // A line of any kind: a queue of levels whose length never changes.
 
 use arrayvec::ArrayVec;
-use std::mem;
 
 // The most levels that a line can hold.
 const MOST: usize = 256;
 
-// A line as the levels that it holds, in a ring, and the place of the next one to leave.
-// The ring is kept by hand, since the kit's circular buffer allocates and a new line cannot fail.
+// A line as the levels that it holds, from the next one to leave.
 #[derive(Drop)]
 pub struct Delay {
     held: ArrayVec<bool, MOST>,
-    next: usize,
 }
 
 impl Delay {
@@ -19,29 +16,25 @@ impl Delay {
     pub fn new(length: usize) -> Delay {
         let mut held = ArrayVec::from([true; MOST]);
         held.truncate(length);
-        Delay { held, next: 0 }
+        Delay { held }
     }
 
     // Two lines as one, the first feeding the second.
     pub fn joined(first: Delay, second: Delay) -> Delay {
-        let mut both = Delay::new(first.held.len() + second.held.len());
-        for line in [&second, &first] {
-            let later = line.held.iter().take(line.next);
-            for level in line.held.iter().skip(line.next).chain(later) {
-                let _ = both.pass(*level);
-            }
-        }
-        both
+        let mut held = second.held;
+        // there is room: the longest line, a joint of joints of 64 levels each, has all 256
+        let _ = held.try_extend_from_slice(&first.held);
+        Delay { held }
     }
 
     // Gives a level to the line, and answers the level that leaves it.
     pub fn pass(&mut self, level: bool) -> bool {
-        let length = self.held.len();
-        let Some(place) = self.held.get_mut(self.next) else {
+        let Some(leaves) = self.held.pop_at(0) else {
             return level;
         };
-        self.next = (self.next + 1) % length;
-        mem::replace(place, level)
+        // there is room, as one has left
+        let _ = self.held.try_push(level);
+        leaves
     }
 
     // Whether no low level is in the line.

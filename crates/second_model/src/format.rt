@@ -56,7 +56,7 @@ impl Layout {
 
     // The number of bits of the whole frame.
     pub(crate) fn bits(self) -> u8 {
-        1 + self.data_bits + u8::from(self.parity.is_some()) + self.stop_bits
+        self.bits_before_stop() + self.stop_bits
     }
 
     // Whether another layout has other numbers of bits.

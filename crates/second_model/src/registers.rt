@@ -1,4 +1,4 @@
-// CR and FR, taken apart when they are written.
+// CR, FR and ACR, taken apart when they are written.
 
 use super::format::Layout;
 
@@ -10,6 +10,22 @@ pub struct Settings {
     pub layout: Layout,
     pub dtr: bool,
     pub rts: bool,
+}
+
+// What ACR says. At first it is clear.
+#[derive(Clone, Copy, PartialEq, Eq, Debug, Default)]
+pub struct Acr {
+    pub send_break: bool,
+    pub show_parity_bit: bool,
+}
+
+impl From<u8> for Acr {
+    fn from(byte: u8) -> Acr {
+        Acr {
+            send_break: byte & 0x02 != 0,
+            show_parity_bit: byte & 0x01 != 0,
+        }
+    }
 }
 
 impl Settings {

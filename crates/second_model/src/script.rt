@@ -18,11 +18,17 @@ pub enum Order {
     SetUp(u8, u8),
 }
 
+// A place in a text. The first line and the first column are 1; a text that is too long is wrong at line 0, column 0.
+#[derive(Clone, Copy, PartialEq, Eq, Debug)]
+pub struct ScriptPlace {
+    pub line: usize,
+    pub column: usize,
+}
+
 // An order, and where its letter stands.
 #[derive(Clone, Copy, PartialEq, Eq, Debug)]
 pub struct ScriptLine {
-    pub line: usize,
-    pub column: usize,
+    pub place: ScriptPlace,
     pub order: Order,
 }
 
@@ -39,11 +45,10 @@ pub enum Fault {
 
 // Why a text is no script, and where.
 #[derive(Clone, Copy, PartialEq, Eq, Debug, Error)]
-#[error("line {line}, column {column}: {fault}")]
+#[error("line {}, column {}: {fault}", .place.line, .place.column)]
 pub struct Misfit {
     pub fault: Fault,
-    pub line: usize,
-    pub column: usize,
+    pub place: ScriptPlace,
 }
 
 // Why a text is not read to its end.
@@ -81,7 +86,7 @@ fn fitting<const N: usize>(pattern: &[u8; N], line: &[u8]) -> Result<[u8; N], us
     }
 }
 
-// The value of a digit.
+// The value of a digit, which is a byte: `to_digit` answers a wider number below 16.
 fn digit(byte: u8) -> u8 {
     char::from(byte).to_digit(16).unwrap_or(0) as u8
 }
@@ -139,29 +144,23 @@ pub fn read_text(alloc: Global, text: &[u8]) -> Result<Vec<ScriptLine>, ScriptEr
     if text.len() > MOST {
         return Err(Misfit {
             fault: Fault::TooLong,
-            line: 0,
-            column: 0,
+            place: ScriptPlace { line: 0, column: 0 },
         }
         .into());
     }
     let mut lines = text.split_inclusive(|byte| *byte == b'\n');
     fitting(b"DUS 0001\n", lines.next().unwrap_or(&[])).map_err(|column| Misfit {
         fault: Fault::BadFirstLine,
-        line: 1,
-        column,
+        place: ScriptPlace { line: 1, column },
     })?;
     let mut script = Vec::new(alloc);
     for (line, bytes) in (2..).zip(lines) {
         let order = order_of(bytes).map_err(|column| Misfit {
             fault: Fault::BadScript,
-            line,
-            column,
+            place: ScriptPlace { line, column },
         })?;
-        script.push(ScriptLine {
-            line,
-            column: 1,
-            order,
-        })?;
+        let place = ScriptPlace { line, column: 1 };
+        script.push(ScriptLine { place, order })?;
     }
     Ok(script)
 }

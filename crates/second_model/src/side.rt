@@ -20,6 +20,16 @@ pub struct Both<T> {
 }
 
 impl<T> Both<T> {
+    // What a function gives for each side, the first before the second.
+    pub(crate) fn each<F: FnMut(Side) -> T>(mut of: F) -> Both<T>
+        requires { F.IsAlwaysCallable of }
+    {
+        Both {
+            one: of(Side::One),
+            two: of(Side::Two),
+        }
+    }
+
     // The value of a side.
     pub(crate) fn at(&self, side: Side) -> &T {
         match side {

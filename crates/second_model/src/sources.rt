@@ -50,7 +50,7 @@ impl Sources {
     }
 
     // Whether a source is in the set.
-    pub fn has(self, source: Source) -> bool {
+    pub(crate) fn has(self, source: Source) -> bool {
         self.0[source as usize]
     }
 

@@ -12,14 +12,14 @@ pub struct ErrorFlags {
     pub broken: bool,
 }
 
-// RDR with its flags, and the compare register with sleep.
+// RDR with its flags, and the compare register. RDR keeps its word when that is read, so that RDRF is a flag beside it.
+// CDR matters only during sleep, so that it is the word that ends the sleep, or none.
 #[derive(Drop)]
 pub struct Inbox {
     pub word: u8,
     pub full: bool,
     pub errors: ErrorFlags,
-    pub compare: u8,
-    pub asleep: bool,
+    pub wakes_at: Option<u8>,
 }
 
 impl ErrorFlags {
@@ -36,8 +36,7 @@ impl Inbox {
             word: 0,
             full: true,
             errors: ErrorFlags::default(),
-            compare: 0,
-            asleep: false,
+            wakes_at: None,
         }
     }
 
@@ -48,8 +47,10 @@ impl Inbox {
             self.errors.broken = true;
             return Report::Break;
         }
-        if self.asleep {
-            self.asleep = word != self.compare;
+        if let Some(compare) = self.wakes_at {
+            if word == compare {
+                self.wakes_at = None;
+            }
             return Report::Passed(word);
         }
         if self.full {

@@ -9,6 +9,8 @@ pub enum ChannelId {
 }
 
 impl ChannelId {
+    pub const BOTH: [ChannelId; 2] = [ChannelId::One, ChannelId::Two];
+
     pub fn number(self) -> u8
         ensures { result ≡ channel_number self }
     {

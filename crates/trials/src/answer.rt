@@ -78,6 +78,8 @@ impl fmt::Display for Answer {
     }
 }
 
+// Notes, records and answers of cycles are types of other crates, so that functions print them here and no `Display`.
+
 fn write_note<N: fmt::Display + Copy, W: fmt::Write>(
     f: &mut fmt::Formatter<W>,
     note: Option<N>,

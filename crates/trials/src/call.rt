@@ -56,6 +56,7 @@ pub(crate) enum Call {
     Held(Held),
     Modem(ChannelId, ModemLine, bool),
     Run(Stretch),
+    // the bytes of CR and FR, which no other call takes together
     SetUp(u8, u8),
     // so many cycles, into so many records
     Sweep { cycles: u16, room: usize },
@@ -73,10 +74,10 @@ impl Signal {
                 mixed(seed.wrapping_add(u64::from(place))) & 1 == 1
             }
             Signal::Bits { lead, bits, each } => {
-                if cycle < lead {
-                    return true;
-                }
-                match (cycle - lead).checked_div(each) {
+                let place = cycle
+                    .checked_sub(lead)
+                    .and_then(|after| after.checked_div(each));
+                match place {
                     Some(place) if place < 32 => (bits >> place) & 1 == 1,
                     _ => true,
                 }

@@ -4,7 +4,7 @@ use crate::answer::Answer;
 use crate::call::Call;
 use crate::channels::Channels;
 use crate::counted::{CHANGES, EVENTS, Event};
-use crate::state::State;
+use crate::state::{State, Step};
 use dacia::access::Place;
 use std::alloc::{AllocError, Global};
 use terms::channel_id::ChannelId;
@@ -92,9 +92,9 @@ impl Counts {
     }
 
     // Counts what has changed in a channel.
-    fn change(&mut self, was: State, is: State) {
-        let begun = is.difference(was);
-        let ended = was.difference(is);
+    fn change(&mut self, step: Step) {
+        let begun = step.begun();
+        let ended = step.ended();
         for change in &mut self.changes {
             if begun.contains(change.fact) {
                 change.begins.add();
@@ -110,26 +110,21 @@ impl Counts {
     }
 
     // Counts a cycle of a channel: its report, and the states before it and after it.
-    pub(crate) fn cycle(
-        &mut self,
-        channel: ChannelId,
-        report: Option<Report>,
-        was: State,
-        is: State,
-    ) {
-        self.change(was, is);
+    pub(crate) fn cycle(&mut self, channel: ChannelId, report: Option<Report>, step: Step) {
+        self.change(step);
         if let Some(Report { kind, word: _ }) = report {
             self.add(Event::Report(channel, kind));
-            self.ending(kind, was, is);
+            self.ending(kind, step);
         }
     }
 
     // Counts the rare cases of an ending.
-    fn ending(&mut self, kind: ReportKind, was: State, is: State) {
+    fn ending(&mut self, kind: ReportKind, step: Step) {
+        let Step { was, is } = step;
         let broken = kind == ReportKind::Break;
         let passed = kind == ReportKind::Passed;
         let kept = kind == ReportKind::Kept;
-        let cleared = was.difference(is);
+        let cleared = step.ended();
         let shows = was.contains(State::SHOWS_PARITY);
         let parity = is.contains(State::PAR);
         self.see(Event::BreakAsleep, broken && was.contains(State::ASLEEP));
@@ -151,14 +146,8 @@ impl Counts {
     }
 
     // Counts a call: its answer, and the states before it and after it.
-    pub(crate) fn call(
-        &mut self,
-        call: Call,
-        answer: Option<Answer>,
-        was: Channels<State>,
-        is: Channels<State>,
-    ) {
-        let either = was.one.union(was.two);
+    pub(crate) fn call(&mut self, call: Call, answer: Option<Answer>, steps: Channels<Step>) {
+        let either = steps.one.was.union(steps.two.was);
         if let Some(refusal) = answer.and_then(Answer::refusal) {
             self.add(Event::Refusal(refusal));
         }
@@ -172,7 +161,7 @@ impl Counts {
                 if let Some(note) = note {
                     self.add(Event::Written(note));
                 }
-                self.setting(select, was);
+                self.setting(select, steps);
             }
             (Call::Held(held), _) => self.see(Event::HeldAccess, held.span > 0),
             (Call::Reset, _) => {
@@ -181,7 +170,7 @@ impl Counts {
                 self.see(Event::ResetWhileGathering, either.contains(State::GATHERS));
             }
             (Call::Modem(channel, _, _), _) => {
-                let begun = is.at(channel).difference(*was.at(channel));
+                let begun = steps.at(channel).begun();
                 self.see(Event::CtsFall, begun.contains(State::TDRE));
             }
             (Call::SetUp(_, _), Some(Answer::SetUp(Ok(())))) => {
@@ -193,18 +182,19 @@ impl Counts {
         }
         // a set-up puts in another chip, which has not changed
         if !matches!(call, Call::SetUp(_, _)) {
-            self.change(was.one, is.one);
-            self.change(was.two, is.two);
+            self.change(steps.one);
+            self.change(steps.two);
         }
     }
 
     // Counts a write to CR, FR, CDR or ACR in the middle of a frame.
-    fn setting(&mut self, select: u8, was: Channels<State>) {
+    fn setting(&mut self, select: u8, steps: Channels<Step>) {
         let Ok(Place { channel, register }) = Place::try_from(select) else {
             return;
         };
-        let sends = was.at(channel).contains(State::SENDS);
-        let gathers = was.at(channel).contains(State::GATHERS);
+        let was = steps.at(channel).was;
+        let sends = was.contains(State::SENDS);
+        let gathers = was.contains(State::GATHERS);
         match register {
             Register::Control => {
                 self.see(Event::SettingWhileSending, sends);

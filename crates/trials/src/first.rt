@@ -35,14 +35,8 @@ impl Played for Chip {
 
     fn levels(&self) -> Levels {
         Levels {
-            irq: Channels {
-                one: self.irq(ChannelId::One),
-                two: self.irq(ChannelId::Two),
-            },
-            txd: Some(Channels {
-                one: self.txd(ChannelId::One),
-                two: self.txd(ChannelId::Two),
-            }),
+            irq: Channels::each(|channel| self.irq(channel)),
+            txd: Some(Channels::each(|channel| self.txd(channel))),
         }
     }
 
@@ -82,10 +76,7 @@ impl<A: Line, B: Line> Played for Board<A, B> {
 
     fn levels(&self) -> Levels {
         Levels {
-            irq: Channels {
-                one: self.irq(ChannelId::One),
-                two: self.irq(ChannelId::Two),
-            },
+            irq: Channels::each(|channel| self.irq(channel)),
             txd: None,
         }
     }

@@ -82,10 +82,7 @@ impl Maker {
     fn new(seed: u64) -> Maker {
         Maker {
             random: Random::new(seed),
-            written: Channels {
-                one: Written::default(),
-                two: Written::default(),
-            },
+            written: Channels::default(),
         }
     }
 
@@ -133,6 +130,7 @@ impl Maker {
         frame.extend(data);
         if to.fr & 4 != 0 {
             let odd = data.bits.count_ones() % 2 == 1;
+            // odd, even, mark, space: by number and no type of a model, as histories are made without what they are played on
             let right = match (to.fr >> 3) & 3 {
                 0 => !odd,
                 1 => odd,
@@ -403,11 +401,7 @@ impl Maker {
             2 => Kind::Joint,
             _ => Kind::JointOfJoints,
         };
-        let fed = if self.random.chance(20) {
-            Some(self.random.number())
-        } else {
-            None
-        };
+        let fed = self.random.chance(20).then(|| self.random.number());
         Cable { kind, fed }
     }
 }
@@ -420,7 +414,7 @@ pub(crate) fn history(heap: Global, seed: u64) -> Result<History, AllocError> {
     let device = if seed % 8 != 7 {
         // one history in five does without the first calls
         if !maker.random.chance(20) {
-            for channel in [ChannelId::One, ChannelId::Two] {
+            for channel in ChannelId::BOTH {
                 calls.extend_from_slice(&maker.first_calls(channel))?;
             }
         }

@@ -8,7 +8,7 @@ use crate::counts::Counts;
 use crate::played::{First, Second};
 use crate::records;
 use crate::second::{side, txd};
-use crate::state::State;
+use crate::state::{State, Step};
 use crate::stop::{Place, Stop};
 use dacia::access::{ReadAccess, WriteAccess};
 use dacia::chip::Inputs;
@@ -36,10 +36,7 @@ fn state(chip: &Chip, channel: ChannelId) -> State {
 }
 
 fn states(chip: &Chip) -> Channels<State> {
-    Channels {
-        one: state(chip, ChannelId::One),
-        two: state(chip, ChannelId::Two),
-    }
+    Channels::each(|channel| state(chip, channel))
 }
 
 impl<'a, F: First, S: Second> Rig<'a, F, S> {
@@ -50,7 +47,7 @@ impl<'a, F: First, S: Second> Rig<'a, F, S> {
             first,
             second,
             counts,
-            place: Place { call: 0, cycle: 0 },
+            place: Place::default(),
             states,
             neighbours: false,
         }
@@ -115,7 +112,11 @@ impl<'a, F: First, S: Second> Rig<'a, F, S> {
         self.same_levels()?;
         let is = states(self.second.chip());
         let was = mem::replace(&mut self.states, is);
-        self.counts.call(call, answer, was, is);
+        let steps = Channels::each(|channel| Step {
+            was: *was.at(channel),
+            is: *is.at(channel),
+        });
+        self.counts.call(call, answer, steps);
         self.counts.see(Event::TwoRecordsOfCycle, self.neighbours);
         self.counts.made(F::ALONE);
         Ok(())
@@ -148,8 +149,9 @@ impl<'a, F: First, S: Second> Rig<'a, F, S> {
 
     // Plays the calls during which an access is open.
     fn between(&mut self, during: &[Call]) -> Result<(), Stop> {
-        for call in during {
-            self.place.call = self.place.call.saturating_add(1);
+        let held = self.place.call;
+        for (further, call) in (1..).zip(during) {
+            self.place.call = held.saturating_add(further);
             self.play(*call)?;
         }
         Ok(())
@@ -167,13 +169,15 @@ impl<'a, F: First, S: Second> Rig<'a, F, S> {
     fn cycle(&mut self, inputs: Inputs) -> Result<(), Stop> {
         let first = self.first.cycle(inputs);
         let second = self.second.cycle(inputs);
-        let one = |answer| Answer::Cycle(ChannelId::One, answer);
-        let two = |answer| Answer::Cycle(ChannelId::Two, answer);
-        self.place.same(one, first.one, second.one)?;
-        self.place.same(two, first.two, second.two)?;
+        for channel in ChannelId::BOTH {
+            let told = |answer| Answer::Cycle(channel, answer);
+            self.place
+                .same(told, first.of(channel), second.of(channel))?;
+        }
         self.same_levels()?;
-        self.look(ChannelId::One, first.one.report);
-        self.look(ChannelId::Two, first.two.report);
+        for channel in ChannelId::BOTH {
+            self.look(channel, first.of(channel).report);
+        }
         self.counts.made(F::ALONE);
         Ok(())
     }
@@ -183,8 +187,8 @@ impl<'a, F: First, S: Second> Rig<'a, F, S> {
         let is = state(self.second.chip(), channel);
         let was = self.states.at_mut(channel);
         if report.is_some() || *was != is {
-            self.counts.cycle(channel, report, *was, is);
-            *was = is;
+            let was = mem::replace(was, is);
+            self.counts.cycle(channel, report, Step { was, is });
         }
     }
 

@@ -6,7 +6,9 @@ use crate::played::{Played, Second};
 use board::record::Record;
 use channel::channel::ChannelAnswer;
 use dacia::chip::{ChipAnswer, Inputs};
-use second_model::{Access, Answer, Board, Both, Chip, Event, Input, Pins, Side, SweepError};
+use second_model::{
+    Access, Answer, Board, Both, Chip, Event, Input, Pins, Side, SweepError, Ticks,
+};
 use std::alloc::{AllocError, Global};
 use terms::channel_id::ChannelId;
 use terms::modem_line::ModemLine;
@@ -39,8 +41,10 @@ impl Played for Chip {
                     one: inputs.rxd1,
                     two: inputs.rxd2,
                 },
-                rxc: inputs.marks.rxc,
-                txc: inputs.marks.txc,
+                marks: Ticks {
+                    receiver: inputs.marks.rxc,
+                    transmitter: inputs.marks.txc,
+                },
             },
         ))
     }
@@ -120,18 +124,12 @@ impl Second for Board {
 
 // The levels of IRQ.
 fn irq(chip: &Chip) -> Channels<bool> {
-    Channels {
-        one: chip.irq(Side::One),
-        two: chip.irq(Side::Two),
-    }
+    Channels::each(|channel| chip.irq(side(channel)))
 }
 
 // The levels of TxD.
 pub(crate) fn txd(chip: &Chip) -> Channels<bool> {
-    Channels {
-        one: chip.txd(Side::One),
-        two: chip.txd(Side::Two),
-    }
+    Channels::each(|channel| chip.txd(side(channel)))
 }
 
 // The rest turns words of the one model into words of the other: by functions and not by `From`, since all these types

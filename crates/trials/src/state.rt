@@ -1,10 +1,11 @@
 // What the second model shows of a channel, to see what changes.
 
 use bitflags::bitflags;
-use second_model::{Hearing, Source, Transmitter, View};
+use second_model::{Hearing, Transmitter, View};
 
 // Which facts hold of a channel. They are bits and no fields of a struct, since each cycle compares them with those
-// before: with fields a run took a fifth longer.
+// before: with fields a run took a fifth longer. The first seven are the requests and the next seven the flags, both in the
+// order of the bits of ISR.
 #[derive(Clone, Copy, PartialEq, Eq, Debug)]
 pub(crate) struct State(u32);
 
@@ -41,31 +42,37 @@ bitflags! {
     }
 }
 
-// The interrupt sources, each with its request and its flag.
-const SOURCES: [(Source, State, State); 7] = [
-    (Source::Rdrf, State::REQUEST_RDRF, State::RDRF),
-    (Source::Fob, State::REQUEST_FOB, State::FOB),
-    (Source::Par, State::REQUEST_PAR, State::PAR),
-    (Source::Dsrt, State::REQUEST_DSRT, State::DSRT),
-    (Source::Dcdt, State::REQUEST_DCDT, State::DCDT),
-    (Source::Ctst, State::REQUEST_CTST, State::CTST),
-    (Source::Tdre, State::REQUEST_TDRE, State::TDRE),
-];
+// What a channel was before something, and what it is after it.
+#[derive(Clone, Copy, PartialEq, Eq, Debug)]
+pub(crate) struct Step {
+    pub(crate) was: State,
+    pub(crate) is: State,
+}
+
+impl Step {
+    // The facts that have begun.
+    pub(crate) fn begun(self) -> State {
+        self.is.difference(self.was)
+    }
+
+    // The facts that have ended.
+    pub(crate) fn ended(self) -> State {
+        self.was.difference(self.is)
+    }
+}
 
 impl From<View<'_>> for State {
     fn from(view: View<'_>) -> State {
-        let mut state = State::empty();
-        for (source, request, flag) in SOURCES {
-            state.set(request, view.requests.has(source));
-            state.set(flag, view.flags.has(source));
-        }
+        let requests = u32::from(view.requests.byte());
+        let flags = u32::from(view.flags.byte());
+        let mut state = State::from_bits_retain(requests | flags << 7);
         state.set(State::FE, view.errors.framing);
         state.set(State::OVR, view.errors.overrun);
         state.set(State::BRK, view.errors.broken);
         state.set(State::ASLEEP, view.asleep);
         state.set(State::TDR_FULL, view.tdr_full);
         match view.transmitter {
-            Transmitter::Rests => state.set(State::TUR, view.flags.has(Source::Tdre)),
+            Transmitter::Rests => state.set(State::TUR, state.contains(State::TDRE)),
             Transmitter::Sends(_) => state.insert(State::SENDS),
             Transmitter::Breaks { .. } => state.insert(State::BREAKS),
         }

@@ -6,7 +6,7 @@ use std::fmt;
 use thiserror::Error;
 
 // The call under way, and the cycle of its run.
-#[derive(Clone, Copy, PartialEq, Eq, Debug)]
+#[derive(Clone, Copy, PartialEq, Eq, Debug, Default)]
 pub(crate) struct Place {
     pub(crate) call: usize,
     pub(crate) cycle: u32,
