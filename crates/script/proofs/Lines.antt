@@ -8,10 +8,10 @@ use Rattle.script_words.specs.declared.command.Placed.{Placed}
 use Rattle.script_words.specs.declared.fault.Fault.{Fault}
 use Rattle.script_lines.specs.declared.token.Token.{Token}
 use Rattle.script_words.specs.declared.word.Word.{Word}
-use Rattle.script_words.specs.Format.{Spot, only, Value, Rest, begins, ends, next, Letter, R, W, C, L, S, letter, after, fits, misfits, says, goes_on, misfit_at, first_line, placed, before, read}
+use Rattle.script_words.specs.Format.{Spot, only, Value, Rest, begins, ends, next, Letter, R, W, C, L, S, letter, after, fits, misfits, says, goes_on, at_place, misfit_at, first_line, placed, before, read}
 use Rattle.script.proofs.Steps.{stepped}
 use Rattle.script_lines.specs.Token.{word_of, letter_of, width, Piece, piece_of, first_piece, token_says}
-use Rattle.script_words.specs.Word.{and_then, line_at, first_line_at}
+use Rattle.script_words.specs.Word.{position_at, and_then, line_at, first_line_at}
 use Rattle.script_words.proofs.Places.{slice_get-take, drop_taken}
 
 -- a line that takes n bytes more
@@ -32,7 +32,7 @@ seen f m o = and_then (ok_or o m) (λ b. ok_or (f b) m)
 -- the last byte of a line
 ends_by : (cs : List Command) (l c : ℕ) (ys : List ℕ) (b : Bool) →
     stepped l c ys (cond b (says cs) misfits)
-    ≡ onward (and_then (ok_or (cond {A = Option (Unit {0})} b (Some tt) None) (misfit_at l c)) (λ _. Ok cs)) l ys
+    ≡ onward (and_then (ok_or (cond {A = Option (Unit {0})} b (Some tt) None) (misfit_at (at_place l c))) (λ _. Ok cs)) l ys
 ends_by cs l c ys true = refl
 ends_by cs l c ys false = refl
 
@@ -42,7 +42,7 @@ unfolding read
 ends_read cs w i xs same = go xs ∙ sym (ap (λ o. at o (drop 1 xs)) same)
   where
     at : Option ℕ → List ℕ → Result (List Placed) Fault
-    at o ys = onward (and_then (seen (fits (only 10)) (misfit_at w.line (w.column + i)) o) (λ _. Ok cs)) w.line ys
+    at o ys = onward (and_then (seen (fits (only 10)) (misfit_at (position_at w i)) o) (λ _. Ok cs)) w.line ys
 
     go : (xs : List ℕ) → read (ends cs) w.line (w.column + i) xs ≡ at (slice_get xs 0) (drop 1 xs)
     go [] = refl
@@ -51,7 +51,7 @@ ends_read cs w i xs same = go xs ∙ sym (ap (λ o. at o (drop 1 xs)) same)
 -- any other byte
 next_by : (s : Spot) (k : Value s → Rest) (l c : ℕ) (ys rest : List ℕ) (line : Rest → Result (List Command) Fault) →
     ((v : Value s) → read (k v) l (suc c) ys ≡ onward (line (k v)) l rest) → (o : Option (Value s)) →
-    stepped l c ys (goes_on o k) ≡ onward (and_then (ok_or o (misfit_at l c)) (λ v. line (k v))) l rest
+    stepped l c ys (goes_on o k) ≡ onward (and_then (ok_or o (misfit_at (at_place l c))) (λ v. line (k v))) l rest
 next_by s k l c ys rest line ih None = refl
 next_by s k l c ys rest line ih (Some v) = ih v
 
@@ -62,7 +62,7 @@ unfolding read
 next_read s k w i xs rest same ih = go xs ih ∙ sym (ap at same)
   where
     at : Option ℕ → Result (List Placed) Fault
-    at o = onward (and_then (seen (fits s) (misfit_at w.line (w.column + i)) o) (λ v. line_at (k v) w (suc i))) w.line rest
+    at o = onward (and_then (seen (fits s) (misfit_at (position_at w i)) o) (λ v. line_at (k v) w (suc i))) w.line rest
 
     go : (xs : List ℕ) → ((v : Value s) → read (k v) w.line (w.column + suc i) (drop 1 xs) ≡ onward (line_at (k v) w (suc i)) w.line rest) →
         read (next s k) w.line (w.column + i) xs ≡ at (slice_get xs 0)
@@ -116,7 +116,7 @@ pub record Begins (t : Token) (bs : List ℕ) (l : ℕ) : Type 0 where
   pub column : (word_of t).column ≡ 1
 
 abbrev piece_at : List ℕ → ℕ → Letter → Piece
-piece_at bs l k = record { letter = k; bytes = take (width k) bs; line = l; column = 1 }
+piece_at bs l k = record { letter = k; bytes = take (width k) bs; position = at_place l 1 }
 
 begun : (t : Token) (x : ℕ) (xs : List ℕ) (l : ℕ) (k : Letter) → letter x ≡ Some k → piece_of t ≡ piece_at (x ∷ xs) l k → Begins t (x ∷ xs) l
 begun t x xs l k has same = record {
@@ -125,8 +125,8 @@ begun t x xs l k has same = record {
   parts = refl;
   lettered = has ∙ ap Some (sym (ap (λ (p : Piece). p.letter) same));
   bytes = ap (λ (p : Piece). p.bytes) same ∙ ap (λ j. take (width j) (x ∷ xs)) (sym (ap (λ (p : Piece). p.letter) same));
-  line = ap (λ (p : Piece). p.line) same;
-  column = ap (λ (p : Piece). p.column) same;
+  line = ap (λ (p : Piece). p.position.line) same;
+  column = ap (λ (p : Piece). p.position.column) same;
 }
 
 pub begins_with : (t : Token) (bs : List ℕ) (l : ℕ) → Ok (piece_of t) ≡ first_piece bs l → Begins t bs l
@@ -134,8 +134,8 @@ begins_with t [] l e = cc
 begins_with t (x ∷ xs) l e = go (letter x) refl
   where
     go : (o : Option Letter) → letter x ≡ o → Begins t (x ∷ xs) l
-    go None h = let z = e ∙ ap (λ o. ok_or (option_map (piece_at (x ∷ xs) l) o) (misfit_at l 1)) h in cc
-    go (Some k) h = let z = e ∙ ap (λ o. ok_or (option_map (piece_at (x ∷ xs) l) o) (misfit_at l 1)) h in begun t x xs l k h (cc)
+    go None h = let z = e ∙ ap (λ o. ok_or (option_map (piece_at (x ∷ xs) l) o) (misfit_at (at_place l 1))) h in cc
+    go (Some k) h = let z = e ∙ ap (λ o. ok_or (option_map (piece_at (x ∷ xs) l) o) (misfit_at (at_place l 1))) h in begun t x xs l k h (cc)
 
 -- a line is read as its token says
 letter_read : (o : Option Letter) (k : Letter) (l : ℕ) (xs : List ℕ) → o ≡ Some k → stepped l 1 xs (goes_on o after) ≡ read (after k) l 2 xs
@@ -159,7 +159,7 @@ token_read t bs l b =
     cc
 
 -- a text that begins with no token
-no_letter : (o : Option Letter) (l : ℕ) (bs xs : List ℕ) (f : Fault) → Err f ≡ ok_or (option_map (piece_at bs l) o) (misfit_at l 1) →
+no_letter : (o : Option Letter) (l : ℕ) (bs xs : List ℕ) (f : Fault) → Err f ≡ ok_or (option_map (piece_at bs l) o) (misfit_at (at_place l 1)) →
     stepped l 1 xs (goes_on o after) ≡ Err f
 no_letter None l bs xs f e = cc
 no_letter (Some k) l bs xs f e = cc

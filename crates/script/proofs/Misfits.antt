@@ -8,7 +8,8 @@ use Rattle.terms.specs.declared.modem_line.ModemLine.TheVariants.{Cts}
 use Rattle.script_words.specs.declared.command.Command.{Command}
 use Rattle.script_words.specs.declared.command.Placed.{Placed}
 use Rattle.script_words.specs.declared.fault.Fault.{Fault}
-use Rattle.script_words.specs.Format.{Spot, only, select_digit, hex_digit, channel_digit, line_letter, level_digit, Value, fits, Rest, begins, ends, next, first_line, Letter, R, W, C, L, S, letter, after, Step, misfits, goes, says, goes_on, step, misfit_at, at_end, placed, before, read}
+use Rattle.script_words.specs.declared.position.Position.{Position}
+use Rattle.script_words.specs.Format.{Spot, only, select_digit, hex_digit, channel_digit, line_letter, level_digit, Value, fits, Rest, begins, ends, next, first_line, Letter, R, W, C, L, S, letter, after, Step, misfits, goes, says, goes_on, step, at_place, misfit_at, at_end, placed, before, read}
 use Rattle.script.proofs.Steps.{stepped}
 use Rattle.script.specs.Laws.{place_from}
 use Rattle.script.proofs.Spellings.{shows, Holds, shows_fits, PlainSpot, no_line_end}
@@ -121,23 +122,22 @@ pub record Stop (r : Rest) (l c : ℕ) (bs : List ℕ) (f : Fault) : Type 0 wher
   pub good : List ℕ
   pub bad : List ℕ
   pub parts : bs ≡ good ++ bad
-  pub place : place_from l c good ≡ (f.line, f.column)
-  pub fault : f ≡ misfit_at f.line f.column
+  pub place : place_from l c good ≡ f.position
+  pub fault : f ≡ misfit_at f.position
   pub more : List ℕ
   pub opens : accepts r (good ++ more) ≡ true
   pub halts : Halts r good bad
 
-stop_here : (r : Rest) (l c : ℕ) (bs : List ℕ) (f : Fault) → f ≡ misfit_at l c → Halts r [] bs → Stop r l c bs f
+stop_here : (r : Rest) (l c : ℕ) (bs : List ℕ) (f : Fault) → f ≡ misfit_at (at_place l c) → Halts r [] bs → Stop r l c bs f
 stop_here r l c bs f e h =
-    let line : l ≡ f.line = sym (ap (λ (g : Fault). g.line) e) in
-    let column : c ≡ f.column = sym (ap (λ (g : Fault). g.column) e) in
+    let position : at_place l c ≡ f.position = sym (ap (λ (g : Fault). g.position) e) in
     let done = complete r in
     record {
       good = [];
       bad = bs;
       parts = refl;
-      place = λ i. (line i, column i);
-      fault = e ∙ (λ i. misfit_at (line i) (column i));
+      place = position;
+      fault = e ∙ ap misfit_at position;
       more = done.0;
       opens = done.1;
       halts = h;
@@ -160,7 +160,7 @@ stop_later r r' l c l' c' x bs f same moved t = record {
   halts = halts_more r r' x t.good t.bad same t.halts;
 }
 
-end_fault : (r : Rest) (l c : ℕ) (f : Fault) → at_end r l c ≡ Err f → (f ≡ misfit_at l c) × (may_end r ≡ false)
+end_fault : (r : Rest) (l c : ℕ) (f : Fault) → at_end r l c ≡ Err f → (f ≡ misfit_at (at_place l c)) × (may_end r ≡ false)
 unfolding may_end
 end_fault begins l c f e = cc
 end_fault (ends cs) l c f e = ((cc), refl)
@@ -193,16 +193,16 @@ stop (x ∷ xs) r l c f p e = go (λ r' m n q d. stop xs r' m n f q d) (step r x
         (ih begins (suc l) 1 tt (before_fault (placed l cs) (read begins (suc l) 1 xs) f d))
 
 -- the line of a place is never below the line that it was counted from
-place_line : (bs : List ℕ) (l c : ℕ) → l ≤ (place_from l c bs).0
+place_line : (bs : List ℕ) (l c : ℕ) → l ≤ (place_from l c bs).line
 place_line [] l c = omega arith
 place_line (x ∷ xs) l c = by (eqb x 10) (place_line xs (suc l) 1) (place_line xs l (suc c))
   where
-    by : (b : Bool) → suc l ≤ (place_from (suc l) 1 xs).0 → l ≤ (place_from l (suc c) xs).0 → l ≤ (cond b (place_from (suc l) 1 xs) (place_from l (suc c) xs)).0
+    by : (b : Bool) → suc l ≤ (place_from (suc l) 1 xs).line → l ≤ (place_from l (suc c) xs).line → l ≤ (cond b (place_from (suc l) 1 xs) (place_from l (suc c) xs)).line
     by true p q = omega (arith, p)
     by false p q = q
 
-pub fault_line : (bs : List ℕ) (l c : ℕ) (f : Fault) → read begins l c bs ≡ Err f → l ≤ f.line
+pub fault_line : (bs : List ℕ) (l c : ℕ) (f : Fault) → read begins l c bs ≡ Err f → l ≤ f.position.line
 fault_line bs l c f e =
     let t = stop bs begins l c f tt e in
-    let n : (place_from l c t.good).0 ≡ f.line = ap (λ (p : ℕ × ℕ). p.0) t.place in
+    let n : (place_from l c t.good).line ≡ f.position.line = ap (λ (p : Position). p.line) t.place in
     omega (arith, place_line t.good l c, n)

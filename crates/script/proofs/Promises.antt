@@ -50,24 +50,24 @@ stops good [] h = refuses good h
 stops good (b ∷ bs) h = λ o. refuses ((good ++ b ∷ []) ++ o.0) (ap (accepts first_line) (append_assoc good (b ∷ []) o.0) ∙ h o.0) o.1
 
 -- 8 and 9 tell whether the first line is there
-not_eight : (bs : List ℕ) (f : Fault) → read first_line 1 1 bs ≡ Err f → script_refusal_number f.refusal ≡ cond (eqb f.line 1) 8 9 → script_refusal_number f.refusal ≡ 8 → HasFirstLine bs → ⊥
+not_eight : (bs : List ℕ) (f : Fault) → read first_line 1 1 bs ≡ Err f → script_refusal_number f.refusal ≡ cond (eqb f.position.line 1) 8 9 → script_refusal_number f.refusal ≡ 8 → HasFirstLine bs → ⊥
 not_eight bs f e n eight has =
-    let later : 2 ≤ f.line = fault_line has.0 2 1 f (sym (first_written has.0) ∙ sym (ap (λ z. read first_line 1 1 z) has.1) ∙ e) in
-    let other : eqb f.line 1 ≡ false = ne_eqb f.line 1 (λ z. omega arith) in
+    let later : 2 ≤ f.position.line = fault_line has.0 2 1 f (sym (first_written has.0) ∙ sym (ap (λ z. read first_line 1 1 z) has.1) ∙ e) in
+    let other : eqb f.position.line 1 ≡ false = ne_eqb f.position.line 1 (λ z. omega arith) in
     let nine : script_refusal_number f.refusal ≡ 9 = n ∙ ap (λ b. cond b 8 9) other in
     omega (arith, eight, nine)
 
-then_nine : (bs : List ℕ) (f : Fault) → read first_line 1 1 bs ≡ Err f → script_refusal_number f.refusal ≡ cond (eqb f.line 1) 8 9 → script_refusal_number f.refusal ≡ 9 → HasFirstLine bs
+then_nine : (bs : List ℕ) (f : Fault) → read first_line 1 1 bs ≡ Err f → script_refusal_number f.refusal ≡ cond (eqb f.position.line 1) 8 9 → script_refusal_number f.refusal ≡ 9 → HasFirstLine bs
 then_nine bs f e n nine =
     ⊎_elim
-    (λ one. let eight : script_refusal_number f.refusal ≡ 8 = n ∙ ap (λ b. cond b 8 9) (eq-eqb f.line 1 one) in absurd (omega (arith, eight, nine)))
+    (λ one. let eight : script_refusal_number f.refusal ≡ 8 = n ∙ ap (λ b. cond b 8 9) (eq-eqb f.position.line 1 one) in absurd (omega (arith, eight, nine)))
     (λ has. has)
     (first_there bs f e)
 
 misfit : (bs : List ℕ) (f : Fault) → read first_line 1 1 bs ≡ Err f → Misfit f bs
 misfit bs f e =
     let t = stop bs first_line 1 1 f plain_first e in
-    let n : script_refusal_number f.refusal ≡ cond (eqb f.line 1) 8 9 = ap (λ (g : Fault). script_refusal_number g.refusal) t.fault ∙ misfit_number (eqb f.line 1) in
+    let n : script_refusal_number f.refusal ≡ cond (eqb f.position.line 1) 8 9 = ap (λ (g : Fault). script_refusal_number g.refusal) t.fault ∙ misfit_number (eqb f.position.line 1) in
     record {
       good = t.good;
       bad = t.bad;
@@ -86,6 +86,6 @@ faults bs (Err (Faulty f)) g = (
   λ few. misfit bs f (sym (short_enough bs few) ∙ g),
   λ long.
       let z = sym (too_long bs long) ∙ g in
-      record { number = cc; line = cc; column = cc },
+      record { number = cc; position = cc },
 )
 faults bs (Err OutOfMemory) g = tt

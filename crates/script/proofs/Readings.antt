@@ -11,11 +11,12 @@ use Rattle.script_words.specs.declared.fault.Fault.{Fault}
 use Rattle.script_words.specs.declared.fault.ScriptError.{ScriptError}
 use Rattle.script_words.specs.declared.fault.ScriptError.TheVariants.{Fault as Faulty, OutOfMemory}
 use Rattle.script_lines.specs.declared.token.Token.{Token}
+use Rattle.script_words.specs.declared.position.Position.{Position}
 use Rattle.script_words.specs.declared.word.Word.{Word}
 use Rattle.script.specs.Answer.{Gives}
-use Rattle.script_words.specs.Format.{only, begins, ends, word, first_word, first_line, before, read, script_says}
+use Rattle.script_words.specs.Format.{only, begins, ends, word, first_word, first_line, at_place, before, read, script_says}
 use Rattle.script_lines.specs.Token.{word_of, piece_of, first_piece, token_says}
-use Rattle.script_words.specs.Word.{and_then, spot_at, line_at, first_line_at}
+use Rattle.script_words.specs.Word.{position_at, and_then, spot_at, line_at, first_line_at}
 use Rattle.script.proofs.Lines.{onward, begins_with, token_read, no_token, before_none, before_again, first_read}
 
 -- a fault that a `?` hands on
@@ -60,25 +61,27 @@ module _ (a : Result (List Placed) Fault) (ps : List Placed) (l : ℕ) (bs : Lis
       inv ∙ ap (before ps) (token_read t bs l (begins_with t bs l e) ∙ ap (λ z. onward z l (drop (length (word_of t).bytes.now) bs)) (sym s))
 
   pub lines_more : (t : Token) (m : Command) → Ok (piece_of t) ≡ first_piece bs l → Ok (m ∷ []) ≡ token_says t →
-      a ≡ before (ps ++ record { command = m; line = l; column = 1 } ∷ []) (read begins (l + 1) 1 (drop (length (word_of t).bytes.now) bs))
+      a ≡ before (ps ++ record { command = m; position = at_place l 1 } ∷ []) (read begins (l + 1) 1 (drop (length (word_of t).bytes.now) bs))
   lines_more t m e s =
       let rest : List ℕ = drop (length (word_of t).bytes.now) bs in
       inv ∙ ap (before ps) (token_read t bs l (begins_with t bs l e) ∙ ap (λ z. onward z l rest) (sym s))
-      ∙ before_again ps (record { command = m; line = l; column = 1 }) (read begins (suc l) 1 rest)
-      ∙ ap (λ j. before (ps ++ record { command = m; line = l; column = 1 } ∷ []) (read begins j 1 rest)) (sym (add-one l))
+      ∙ before_again ps (record { command = m; position = at_place l 1 }) (read begins (suc l) 1 rest)
+      ∙ ap (λ j. before (ps ++ record { command = m; position = at_place l 1 } ∷ []) (read begins j 1 rest)) (sym (add-one l))
 
   -- the same as the code has it
   pub lines_again : (t : Token) (m : Command) → Ok (piece_of t) ≡ first_piece bs l → Ok (m ∷ []) ≡ token_says t →
-      (qs : List Placed) (lw cw : ℕ) (ws zs : List ℕ) → qs ≡ ps ++ record { command = m; line = lw; column = cw } ∷ [] →
-      lw ≡ (word_of t).line → cw ≡ (word_of t).column → ws ≡ (word_of t).bytes.now → zs ≡ drop (length ws) bs → a ≡ before qs (read begins (l + 1) 1 zs)
-  lines_again t m e s qs lw cw ws zs eq el ec ew ez =
+      (qs : List Placed) (w : Word) (p : Position) (zs : List ℕ) → qs ≡ ps ++ record { command = m; position = p } ∷ [] → p ≡ position_at w 0 →
+      w.line ≡ (word_of t).line → w.column ≡ (word_of t).column → w.bytes.now ≡ (word_of t).bytes.now → zs ≡ drop (length w.bytes.now) bs →
+      a ≡ before qs (read begins (l + 1) 1 zs)
+  lines_again t m e s qs w p zs eq ep el ec ew ez =
       let b = begins_with t bs l e in
       let more = lines_more t m e s in
+      let one : w.column + 0 ≡ 1 = omega (arith, ec, b.column) in
       let rest = ez ∙ ap (λ vs. drop (length vs) bs) ew in
       cc
 
 -- the script
-pub too_long : (bs : List ℕ) → 16384 < length bs → script_says bs ≡ Err (record { refusal = ScriptTooLong; line = 0; column = 0 })
+pub too_long : (bs : List ℕ) → 16384 < length bs → script_says bs ≡ Err (record { refusal = ScriptTooLong; position = at_place 0 0 })
 unfolding script_says
 too_long bs h = cond-false (leb (length bs) 16384) _ _ (lt-leb (length bs) 16384 h)
 

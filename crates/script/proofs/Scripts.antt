@@ -230,7 +230,7 @@ read_written bs ps e =
     )
 
 -- a fault past line 1 stands after the first line
-pub first_there : (bs : List ℕ) (f : Fault) → read first_line 1 1 bs ≡ Err f → (f.line ≡ 1) ⊎ ((more : List ℕ) × (bs ≡ first_word ++ line_end ++ more))
+pub first_there : (bs : List ℕ) (f : Fault) → read first_line 1 1 bs ≡ Err f → (f.position.line ≡ 1) ⊎ ((more : List ℕ) × (bs ≡ first_word ++ line_end ++ more))
 first_there bs f e =
     ⊎_elim inl (λ t. inr (t.1, t.4 ∙ ap (λ ts. ts ++ t.1) (word_back first_word t.0 t.2 t.3).0))
     (read_later first_line 1 1 bs f (λ _ _ _ _ _ _ _ _. tt) e)

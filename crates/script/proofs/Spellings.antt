@@ -7,7 +7,7 @@ use Rattle.terms.specs.declared.modem_line.ModemLine.TheVariants.{Cts, Dcd, Dsr}
 use Rattle.script_words.specs.declared.command.Command.{Command}
 use Rattle.script_words.specs.declared.command.Placed.{Placed}
 use Rattle.script_words.specs.declared.fault.Fault.{Fault}
-use Rattle.script_words.specs.Format.{Spot, only, select_digit, hex_digit, channel_digit, line_letter, level_digit, Value, digit_value, within, fits, Rest, begins, ends, next, misfits, says, goes_on, misfit_at, placed, before, read}
+use Rattle.script_words.specs.Format.{Spot, only, select_digit, hex_digit, channel_digit, line_letter, level_digit, Value, digit_value, within, fits, Rest, begins, ends, next, misfits, says, goes_on, at_place, misfit_at, placed, before, read}
 use Rattle.script.proofs.Steps.{stepped}
 use Rattle.script.specs.Writing.{digit, channel_byte, modem_byte, level_byte}
 
@@ -185,10 +185,12 @@ read_line (next s k) l c (x ∷ bs) ps i e = next_known s k l c x bs ps (λ v d.
 
 -- a fault in another line comes after a whole line
 abbrev pub Later : Rest → ℕ → List ℕ → Fault → Type 0
-Later r l bs f = (f.line ≡ l) ⊎ ((ts : List ℕ) × (rest : List ℕ) × (cs : List Command) × Spelt r ts cs × (bs ≡ ts ++ rest))
+Later r l bs f = (f.position.line ≡ l) ⊎ ((ts : List ℕ) × (rest : List ℕ) × (cs : List Command) × Spelt r ts cs × (bs ≡ ts ++ rest))
 
-here : (l c : ℕ) (f : Fault) → ◌≡◌ {A = Result (List Placed) Fault} (Err (misfit_at l c)) (Err f) → f.line ≡ l
-here l c f e = cc
+here : (l c : ℕ) (f : Fault) → ◌≡◌ {A = Result (List Placed) Fault} (Err (misfit_at (at_place l c))) (Err f) → f.position.line ≡ l
+here l c f e =
+    let same : misfit_at (at_place l c) ≡ f = cc in
+    sym (ap (λ (g : Fault). g.position.line) same)
 
 ends_later : (ds : List Command) (l c x : ℕ) (bs : List ℕ) (f : Fault) (b : Bool) → eqb x 10 ≡ b →
     stepped l c bs (cond b (says ds) misfits) ≡ Err f → Later (ends ds) l (x ∷ bs) f

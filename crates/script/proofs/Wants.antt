@@ -7,7 +7,7 @@ use Rattle.std.specs.declared.alloc.Global.{Global}
 use Rattle.script_lines.specs.Token.{word_of, letter_of, width, piece_of, first_piece, token_says}
 use Rattle.script_lines.specs.declared.token.Token.{Token}
 use Rattle.script_words.proofs.Places.{slice_get-take}
-use Rattle.script_words.specs.Format.{begins, first_line, first_word, placed, before, read}
+use Rattle.script_words.specs.Format.{begins, first_line, first_word, at_place, placed, before, read}
 use Rattle.script_words.specs.Word.{first_line_at, line_at}
 use Rattle.script_words.specs.declared.command.Command.{Command}
 use Rattle.script_words.specs.declared.command.Placed.{Placed}
@@ -64,10 +64,10 @@ token_leads t bs l m b s =
       column = b.column;
     } in
     let none : drop (length (word_of t).bytes.now) ts ≡ [] = ap (λ ws. drop (length ws) ts) b.bytes ∙ drop_all (length ts) ts (omega arith) in
-    let alone : read begins l 1 ts ≡ Ok (record { command = m; line = l; column = 1 } ∷ []) =
+    let alone : read begins l 1 ts ≡ Ok (record { command = m; position = at_place l 1 } ∷ []) =
     token_read t ts l short ∙ ap (λ z. onward z l (drop (length (word_of t).bytes.now) ts)) (sym s)
     ∙ ap (λ ds. before (placed l (m ∷ [])) (read begins (suc l) 1 ds)) none in
-    head_back ts l (record { command = m; line = l; column = 1 }) [] (lines_back (length ts) ts l _ (omega arith) alone) bs (drop n bs) (sym (take-append-drop n bs))
+    head_back ts l (record { command = m; position = at_place l 1 }) [] (lines_back (length ts) ts l _ (omega arith) alone) bs (drop n bs) (sym (take-append-drop n bs))
 
 -- the reader's turns: nothing is read yet, or a command was
 abbrev pub Started : List ℕ → List ℕ → Type 0

@@ -9,7 +9,8 @@ use Rattle.script_words.specs.declared.fault.Fault.{Fault}
 use Rattle.script_words.specs.declared.fault.ScriptError.{ScriptError}
 use Rattle.script_words.specs.declared.fault.ScriptError.TheVariants.{Fault as Faulty, OutOfMemory}
 use Rattle.script.specs.Answer.{Gives, Wanting}
-use Rattle.script_words.specs.Format.{most}
+use Rattle.script_words.specs.declared.position.Position.{Position}
+use Rattle.script_words.specs.Format.{at_place, most}
 use Rattle.script.specs.Writing.{line_end, written, written_script, Sayable, AllSayable, at_lines}
 
 -- a script is what is written of commands that can be said
@@ -30,8 +31,8 @@ WrittenBack bs (Ok v) = (cs : List Command) × AllSayable cs × (vec_items v ≡
 WrittenBack bs (Err e) = Unit {0}
 
 -- the place after some bytes, each $0A of which ends a line
-abbrev pub place_from : ℕ → ℕ → List ℕ → ℕ × ℕ
-place_from l c [] = (l, c)
+abbrev pub place_from : ℕ → ℕ → List ℕ → Position
+place_from l c [] = at_place l c
 place_from l c (x ∷ xs) = cond (x == 10) (place_from (suc l) 1 xs) (place_from l (suc c) xs)
 
 -- the bytes up to a place open a script; with the byte there they open none, and where they end there they are none
@@ -57,8 +58,8 @@ pub record Misfit (f : Fault) (bs : List ℕ) : Type 0 where
   pub good : List ℕ
   pub bad : List ℕ
   pub parts : bs ≡ good ++ bad
-  pub place : place_from 1 1 good ≡ (f.line, f.column)
-  pub number : script_refusal_number f.refusal ≡ cond (f.line == 1) 8 9
+  pub place : place_from 1 1 good ≡ f.position
+  pub number : script_refusal_number f.refusal ≡ cond (f.position.line == 1) 8 9
   pub eight : script_refusal_number f.refusal ≡ 8 → HasFirstLine bs → ⊥
   pub nine : script_refusal_number f.refusal ≡ 9 → HasFirstLine bs
   pub opens : Opens good
@@ -67,8 +68,7 @@ pub record Misfit (f : Fault) (bs : List ℕ) : Type 0 where
 -- 10 is for length alone
 pub record TooLong (f : Fault) (bs : List ℕ) : Type 0 where
   pub number : script_refusal_number f.refusal ≡ 10
-  pub line : f.line ≡ 0
-  pub column : f.column ≡ 0
+  pub position : f.position ≡ at_place 0 0
 
 abbrev pub Faults : List ℕ → Result (Vec Placed Global) ScriptError → Type 0
 Faults bs (Ok v) = length bs ≤ most

@@ -8,6 +8,7 @@ use Rattle.terms.specs.declared.modem_line.ModemLine.TheVariants.{Cts, Dcd, Dsr}
 use Rattle.script_words.specs.declared.command.Command.{Command}
 use Rattle.script_words.specs.declared.command.Command.TheVariants.{Read, Write, Cycles, Modem, SetUp}
 use Rattle.script_words.specs.declared.command.Placed.{Placed}
+use Rattle.script_words.specs.Format.{at_place}
 
 -- a digit: 0 to 9, A to F
 abbrev pub digit : ℕ → ℕ
@@ -61,4 +62,4 @@ AllSayable (c ∷ cs) = Sayable c × AllSayable cs
 -- one command to a line, from line l on
 abbrev pub at_lines : ℕ → List Command → List Placed
 at_lines l [] = []
-at_lines l (c ∷ cs) = record { command = c; line = l; column = 1 } ∷ at_lines (suc l) cs
+at_lines l (c ∷ cs) = record { command = c; position = at_place l 1 } ∷ at_lines (suc l) cs

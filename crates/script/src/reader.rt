@@ -8,6 +8,7 @@ ghost use Rattle.script_words.specs.Word.{first_line_at};
 use script_lines::token::Token;
 use script_words::command::Placed;
 use script_words::fault::{Fault, ScriptError};
+use script_words::position::Position;
 use script_words::refusal::ScriptRefusal;
 use script_words::word::Word;
 use std::alloc::Global;
@@ -27,8 +28,7 @@ pub fn read_script(heap: Global, script: &[u8]) -> Result<Vec<Placed>, ScriptErr
     if script.len() > MOST_BYTES {
         return Err(ScriptError::Fault(Fault {
             refusal: ScriptRefusal::ScriptTooLong,
-            line: 0,
-            column: 0,
+            position: Position { line: 0, column: 0 },
         }));
     }
     let word = Word {
@@ -68,8 +68,7 @@ fn read_lines(heap: Global, text: &[u8]) -> Result<Vec<Placed>, ScriptError>
         let word = token.word();
         commands.push(Placed {
             command,
-            line: word.line,
-            column: u32::from(word.column),
+            position: word.position(0),
         })?;
         (_, rest) = rest.split_at(word.bytes.len());
         line += 1;

@@ -6,8 +6,9 @@ use Rattle.script_words.specs.declared.command.Command.{Command}
 use Rattle.script_words.specs.declared.fault.Fault.{Fault}
 use Rattle.script_lines.specs.declared.token.Token.{Token}
 use Rattle.script_lines.specs.declared.token.Token.TheVariants.{Read, Write, Cycles, Modem, SetUp}
+use Rattle.script_words.specs.declared.position.Position.{Position}
 use Rattle.script_words.specs.declared.word.Word.{Word}
-use Rattle.script_words.specs.Format.{Letter, R, W, C, L, S, letter, after, misfit_at}
+use Rattle.script_words.specs.Format.{Letter, R, W, C, L, S, letter, after, at_place, misfit_at}
 use Rattle.script_words.specs.Word.{and_then, line_at}
 
 abbrev pub word_of : Token → Word
@@ -36,11 +37,10 @@ width S = 8
 pub record Piece : Type 0 where
   pub letter : Letter
   pub bytes : List ℕ
-  pub line : ℕ
-  pub column : ℕ
+  pub position : Position
 
 abbrev pub piece_of : Token → Piece
-piece_of t = record { letter = letter_of t; bytes = (word_of t).bytes.now; line = (word_of t).line; column = (word_of t).column }
+piece_of t = record { letter = letter_of t; bytes = (word_of t).bytes.now; position = at_place (word_of t).line (word_of t).column }
 
 abbrev pub piece : Result Token Fault → Result Piece Fault
 piece (Ok t) = Ok (piece_of t)
@@ -49,8 +49,8 @@ piece (Err f) = Err f
 -- what a text in line l begins with
 abbrev pub first_piece : List ℕ → ℕ → Result Piece Fault
 first_piece bs l =
-    and_then (ok_or (slice_get bs 0) (misfit_at l 1))
-    (λ x. ok_or (option_map (λ k. record { letter = k; bytes = take (width k) bs; line = l; column = 1 }) (letter x)) (misfit_at l 1))
+    and_then (ok_or (slice_get bs 0) (misfit_at (at_place l 1)))
+    (λ x. ok_or (option_map (λ k. record { letter = k; bytes = take (width k) bs; position = at_place l 1 }) (letter x)) (misfit_at (at_place l 1)))
 
 abbrev pub said : Result Command Fault → Result (List Command) Fault
 said (Ok c) = Ok (c ∷ [])

@@ -2,6 +2,7 @@
 use script::reader::read_script;
 use script_words::command::{Command, Placed};
 use script_words::fault::{Fault, ScriptError};
+use script_words::position::Position;
 use script_words::refusal::ScriptRefusal;
 use std::alloc::Global;
 use std::fmt::Display;
@@ -11,16 +12,14 @@ use std::test::Fail;
 // The fault of a script that is too long.
 pub(crate) const TOO_LONG: Fault = Fault {
     refusal: ScriptRefusal::ScriptTooLong,
-    line: 0,
-    column: 0,
+    position: Position { line: 0, column: 0 },
 };
 
 // A fault of the first line.
 pub(crate) fn bad_first_line(column: u32) -> Fault {
     Fault {
         refusal: ScriptRefusal::BadFirstLine,
-        line: 1,
-        column,
+        position: Position { line: 1, column },
     }
 }
 
@@ -28,8 +27,7 @@ pub(crate) fn bad_first_line(column: u32) -> Fault {
 pub(crate) fn bad_script(line: u32, column: u32) -> Fault {
     Fault {
         refusal: ScriptRefusal::BadScript,
-        line,
-        column,
+        position: Position { line, column },
     }
 }
 
@@ -44,8 +42,7 @@ pub(crate) fn says(
     for ((placed, command), line) in got.iter().zip(due).zip(2..) {
         let wanted = Placed {
             command: *command,
-            line,
-            column: 1,
+            position: Position { line, column: 1 },
         };
         assert_eq!(rt; *placed, wanted);
     }

@@ -5,6 +5,7 @@ use Rattle.terms.specs.declared.channel_id.ChannelId.TheVariants.{One, Two}
 use Rattle.terms.specs.declared.modem_line.ModemLine.{ModemLine}
 use Rattle.terms.specs.declared.modem_line.ModemLine.TheVariants.{Cts, Dcd, Dsr}
 use Rattle.script_words.specs.declared.refusal.ScriptRefusal.TheVariants.{BadFirstLine, BadScript, ScriptTooLong}
+use Rattle.script_words.specs.declared.position.Position.{Position}
 use Rattle.script_words.specs.declared.command.Command.{Command}
 use Rattle.script_words.specs.declared.command.Command.TheVariants.{Read, Write, Cycles, Modem, SetUp}
 use Rattle.script_words.specs.declared.command.Placed.{Placed}
@@ -97,19 +98,23 @@ step begins x = goes_on (letter x) after
 step (ends cs) x = cond (x == 10) (says cs) misfits
 step (next s k) x = goes_on (fits s x) k
 
+-- line l, column c
+abbrev pub at_place : ℕ → ℕ → Position
+at_place l c = record { line = l; column = c }
+
 -- a misfit in line 1 is one of the first line
-abbrev pub misfit_at : ℕ → ℕ → Fault
-misfit_at l c = record { refusal = cond (l == 1) BadFirstLine BadScript; line = l; column = c }
+abbrev pub misfit_at : Position → Fault
+misfit_at p = record { refusal = cond (p.line == 1) BadFirstLine BadScript; position = p }
 
 -- a script may end where a line may begin
 abbrev pub at_end : Rest → ℕ → ℕ → Result (List Placed) Fault
 at_end begins l c = Ok []
-at_end (ends cs) l c = Err (misfit_at l c)
-at_end (next s k) l c = Err (misfit_at l c)
+at_end (ends cs) l c = Err (misfit_at (at_place l c))
+at_end (next s k) l c = Err (misfit_at (at_place l c))
 
 -- commands of line l stand at its beginning
 abbrev pub placed : ℕ → List Command → List Placed
-placed l cs = map (λ c. record { command = c; line = l; column = 1 }) cs
+placed l cs = map (λ c. record { command = c; position = at_place l 1 }) cs
 
 -- what was said before, and what follows
 abbrev pub before : List Placed → Result (List Placed) Fault → Result (List Placed) Fault
@@ -120,7 +125,7 @@ before ps (Err f) = Err f
 unfoldable pub read : Rest → ℕ → ℕ → List ℕ → Result (List Placed) Fault
 read r l c [] = at_end r l c
 read r l c (x ∷ xs) =
-    elim (step r x) [ misfits ↦ Err (misfit_at l c) | goes r' ↦ read r' l (suc c) xs | says cs ↦ before (placed l cs) (read begins (suc l) 1 xs) ]
+    elim (step r x) [ misfits ↦ Err (misfit_at (at_place l c)) | goes r' ↦ read r' l (suc c) xs | says cs ↦ before (placed l cs) (read begins (suc l) 1 xs) ]
 
 -- the most bytes of a script
 abbrev pub most : ℕ
@@ -128,4 +133,4 @@ most = 16384
 
 -- what a list of bytes says: its commands with their places, or the fault
 unfoldable pub script_says : List ℕ → Result (List Placed) Fault
-script_says bs = cond (nat_le (length bs) most) (read first_line 1 1 bs) (Err (record { refusal = ScriptTooLong; line = 0; column = 0 }))
+script_says bs = cond (nat_le (length bs) most) (read first_line 1 1 bs) (Err (record { refusal = ScriptTooLong; position = at_place 0 0 }))

@@ -3,14 +3,19 @@ use Rattle.std.specs.Prelude.{◌≡◌, ℕ, suc, ◌+◌, ◌*◌, false, List
 use Rattle.std.specs.List.{slice_get}
 use Rattle.std.specs.Option.{ok_or}
 use Rattle.std.specs.Result.{MatchResult}
+use Rattle.script_words.specs.declared.position.Position.{Position}
 use Rattle.script_words.specs.declared.command.Command.{Command}
 use Rattle.script_words.specs.declared.fault.Fault.{Fault}
 use Rattle.script_words.specs.declared.word.Word.{Word}
-use Rattle.script_words.specs.Format.{Spot, only, hex_digit, Value, Rest, begins, ends, next, first_line, fits, digit_value, within, misfit_at}
+use Rattle.script_words.specs.Format.{Spot, only, hex_digit, Value, Rest, begins, ends, next, first_line, fits, digit_value, within, at_place, misfit_at}
+
+-- where the byte i of a word stands
+abbrev pub position_at : Word → ℕ → Position
+position_at w i = at_place w.line (w.column + i)
 
 -- the byte i of a word
 abbrev pub any_at : Word → ℕ → Result ℕ Fault
-any_at w i = ok_or (slice_get w.bytes.now i) (misfit_at w.line (w.column + i))
+any_at w i = ok_or (slice_get w.bytes.now i) (misfit_at (position_at w i))
 
 -- a fault is handed on
 abbrev pub and_then : {X Y : Type 0} → Result X Fault → (X → Result Y Fault) → Result Y Fault
@@ -19,12 +24,12 @@ and_then (Err e) f = Err e
 
 -- what it stands for, if it fits
 abbrev pub stands_at : {X : Type 0} → (ℕ → Option X) → Word → ℕ → Result X Fault
-stands_at f w i = and_then (any_at w i) (λ b. ok_or (f b) (misfit_at w.line (w.column + i)))
+stands_at f w i = and_then (any_at w i) (λ b. ok_or (f b) (misfit_at (position_at w i)))
 
 -- the same where a relation says what bytes stand for
 abbrev pub StandsAt : {X : Type 0} → (ℕ → Option X → Type 0) → Word → ℕ → Result X Fault → Type 0
 StandsAt {X} meaning w i r =
-    MatchResult (any_at w i) (λ b. (o : Option X) × meaning b o × (r ≡ ok_or o (misfit_at w.line (w.column + i)))) (λ f. r ≡ Err f)
+    MatchResult (any_at w i) (λ b. (o : Option X) × meaning b o × (r ≡ ok_or o (misfit_at (position_at w i)))) (λ f. r ≡ Err f)
 
 abbrev pub spot_at : (s : Spot) → Word → ℕ → Result (Value s) Fault
 spot_at s w i = stands_at (fits s) w i

@@ -1,4 +1,5 @@
 // What a script asks for.
+use crate::position::Position;
 use terms::channel_id::ChannelId;
 use terms::modem_line::ModemLine;
 
@@ -25,10 +26,9 @@ pub enum Command {
     },
 }
 
-// A command with the place of its letter in the script.
+// A command with the position of its letter in the script.
 #[derive(Clone, Copy, PartialEq, Debug)]
 pub struct Placed {
     pub command: Command,
-    pub line: u32,
-    pub column: u32,
+    pub position: Position,
 }

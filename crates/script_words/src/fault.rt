@@ -2,16 +2,15 @@
 ghost use Rattle.std.specs.Prelude.{◌≡◌};
 ghost use Rattle.script_words.specs.declared.fault.ScriptError.TheVariants.{Fault as Faulty, OutOfMemory};
 
+use crate::position::Position;
 use crate::refusal::ScriptRefusal;
 use std::alloc::AllocFailed;
 
-// Why a list of bytes is no script, and where: line and column count from 1.
-// The two are no struct of their own: a word, from which they come, has a narrower column, so that every byte behind it has a number too.
+// Why a list of bytes is no script, and where.
 #[derive(Clone, Copy, PartialEq, Debug)]
 pub struct Fault {
     pub refusal: ScriptRefusal,
-    pub line: u32,
-    pub column: u32,
+    pub position: Position,
 }
 
 #[derive(Clone, Copy, PartialEq, Debug)]

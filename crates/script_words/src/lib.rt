@@ -4,5 +4,6 @@
 
 pub mod command;
 pub mod fault;
+pub mod position;
 pub mod refusal;
 pub mod word;

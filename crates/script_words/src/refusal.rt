@@ -4,7 +4,7 @@ ghost use Rattle.script_words.specs.Refusal.{script_refusal_number};
 
 use thiserror::Error;
 
-// Each cause has its number; those of chip and board go up to 7.
+// Each cause has its number; those of chip and board go up to 7. As there, `number` is no trait: nothing is generic over it.
 #[derive(Clone, Copy, PartialEq, Eq, Debug, Error)]
 pub enum ScriptRefusal {
     #[error("refusal 8: a script has another first line than DUS 0001")]

@@ -1,13 +1,15 @@
 // A part of the script, with the place of its first byte.
-ghost use Rattle.std.specs.Prelude.{◌≡◌, ◌+◌, ◌<◌, ◌≤◌, length, take, IfOk, OnOk};
+ghost use Rattle.std.specs.Prelude.{◌≡◌, ◌<◌, ◌≤◌, length, take, IfOk, OnOk};
 ghost use Rattle.script_words.specs.Format.{only, select_digit, channel_digit, line_letter, level_digit, digit_value, misfit_at};
-ghost use Rattle.script_words.specs.Word.{any_at, spot_at, digit_at, StandsAt};
+ghost use Rattle.script_words.specs.Word.{position_at, any_at, spot_at, digit_at, StandsAt};
 
 use crate::fault::Fault;
+use crate::position::Position;
 use crate::refusal::ScriptRefusal;
 use terms::channel_id::ChannelId;
 use terms::modem_line::ModemLine;
 
+// Line and column apart, and no `Position`: the column is narrower, so that every byte behind it has a position.
 #[derive(Clone, Copy)]
 pub struct Word<'a> {
     pub bytes: &'a [u8],
@@ -16,9 +18,19 @@ pub struct Word<'a> {
 }
 
 impl<'a> Word<'a> {
+    // Where the byte `at` stands.
+    pub fn position(self, at: u8) -> Position
+        ensures { result ≡ position_at self.entry at }
+    {
+        Position {
+            line: self.line,
+            column: u32::from(self.column) + u32::from(at),
+        }
+    }
+
     // A fault at the byte `at`; in line 1 it is one of the first line.
     pub fn fault(self, at: u8) -> Fault
-        ensures { result ≡ misfit_at self.entry.line (self.entry.column + at) }
+        ensures { result ≡ misfit_at (position_at self.entry at) }
     {
         let refusal = if self.line == 1 {
             ScriptRefusal::BadFirstLine
@@ -27,8 +39,7 @@ impl<'a> Word<'a> {
         };
         Fault {
             refusal,
-            line: self.line,
-            column: u32::from(self.column) + u32::from(at),
+            position: self.position(at),
         }
     }
 
@@ -72,7 +83,7 @@ impl<'a> Word<'a> {
         self.stands_at(at, |found| (found == byte).then_some(()))
     }
 
-    // A digit of a value between two others.
+    // A digit of a value between two others; no range, since one that a loop has used up no longer contains its end.
     pub fn digit(self, at: u8, least: u8, most: u8) -> Result<u8, Fault>
         ensures value { result ≡ digit_at least most self.entry at }
         ensures bound { IfOk result (λ v. v ≤ most) }
@@ -93,9 +104,9 @@ impl<'a> Word<'a> {
     pub fn channel(self, at: u8) -> Result<ChannelId, Fault>
         ensures { result ≡ spot_at channel_digit self.entry at }
     {
-        self.stands_at(at, |byte| match char::from(byte) {
-            '1' => Some(ChannelId::One),
-            '2' => Some(ChannelId::Two),
+        self.stands_at(at, |byte| match byte {
+            b'1' => Some(ChannelId::One),
+            b'2' => Some(ChannelId::Two),
             _ => None,
         })
     }
@@ -103,10 +114,10 @@ impl<'a> Word<'a> {
     pub fn modem_line(self, at: u8) -> Result<ModemLine, Fault>
         ensures { result ≡ spot_at line_letter self.entry at }
     {
-        self.stands_at(at, |byte| match char::from(byte) {
-            'C' => Some(ModemLine::Cts),
-            'D' => Some(ModemLine::Dcd),
-            'S' => Some(ModemLine::Dsr),
+        self.stands_at(at, |byte| match byte {
+            b'C' => Some(ModemLine::Cts),
+            b'D' => Some(ModemLine::Dcd),
+            b'S' => Some(ModemLine::Dsr),
             _ => None,
         })
     }
@@ -114,9 +125,9 @@ impl<'a> Word<'a> {
     pub fn level(self, at: u8) -> Result<bool, Fault>
         ensures { result ≡ spot_at level_digit self.entry at }
     {
-        self.stands_at(at, |byte| match char::from(byte) {
-            '0' => Some(false),
-            '1' => Some(true),
+        self.stands_at(at, |byte| match byte {
+            b'0' => Some(false),
+            b'1' => Some(true),
             _ => None,
         })
     }

@@ -1,4 +1,4 @@
-use Rattle.std.proofs.Common.{length, ap, ◌∙◌, inr, arith, true-eqb, false-eqb}
+use Rattle.std.proofs.Common.{length, ap, inr, arith, true-eqb, false-eqb}
 use Rattle.script.proofs.Lines.{begins_with, fewer}
 use Rattle.script.proofs.Readings.{gives_fault, lines_none, lines_no_token, lines_no_command, lines_again}
 use Rattle.script.proofs.Wants.{want, leads_now}
@@ -29,7 +29,7 @@ loop-rest-preserved c =
     let f = fewer c.in_ok-token.token c.loop-rest.rest.now c.loop-rest.line b in
     let w = c.word-word.ensures in (
       lines_again _ _ c.loop-rest.line c.loop-rest.rest.now c.loop-rest.invariant.0 c.in_ok-token.token c.in_ok-command.command
-          c.in_ok-token.ensures c.in_ok-command.ensures _ _ _ _ _ c.in_ok-push.ensures.items w.line (c.from.ensures ∙ w.column) w.bytes c.split_at.ensures.back,
+          c.in_ok-token.ensures c.in_ok-command.ensures _ c.word-word.result _ _ c.in_ok-push.ensures.items c.position.ensures w.line w.column w.bytes c.split_at.ensures.back,
       omega (arith, f, ap length c.word-word.ensures.bytes, c.split_at.ensures.back_len, c.loop-rest.invariant.1),
       inr (leads_now _ _ c.loop-rest.line c.in_ok-token.token c.in_ok-command.command c.loop-rest.invariant.2 c.in_ok-token.ensures c.in_ok-command.ensures),
     )
