@@ -29,12 +29,12 @@ impl<'a> Token<'a> {
             line,
             column: 1,
         };
-        match word.byte_at(0)? {
-            b'R' => Ok(Token::Read(word.front(4))),
-            b'W' => Ok(Token::Write(word.front(7))),
-            b'C' => Ok(Token::Cycles(word.front(7))),
-            b'L' => Ok(Token::Modem(word.front(8))),
-            b'S' => Ok(Token::SetUp(word.front(8))),
+        match char::from(word.byte_at(0)?) {
+            'R' => Ok(Token::Read(word.front(4))),
+            'W' => Ok(Token::Write(word.front(7))),
+            'C' => Ok(Token::Cycles(word.front(7))),
+            'L' => Ok(Token::Modem(word.front(8))),
+            'S' => Ok(Token::SetUp(word.front(8))),
             _ => Err(word.fault(0)),
         }
     }

@@ -104,9 +104,9 @@ impl<'a> Word<'a> {
     pub fn channel(self, at: u8) -> Result<ChannelId, Fault>
         ensures { result ≡ spot_at channel_digit self.entry at }
     {
-        self.stands_at(at, |byte| match byte {
-            b'1' => Some(ChannelId::One),
-            b'2' => Some(ChannelId::Two),
+        self.stands_at(at, |byte| match char::from(byte) {
+            '1' => Some(ChannelId::One),
+            '2' => Some(ChannelId::Two),
             _ => None,
         })
     }
@@ -114,10 +114,10 @@ impl<'a> Word<'a> {
     pub fn modem_line(self, at: u8) -> Result<ModemLine, Fault>
         ensures { result ≡ spot_at line_letter self.entry at }
     {
-        self.stands_at(at, |byte| match byte {
-            b'C' => Some(ModemLine::Cts),
-            b'D' => Some(ModemLine::Dcd),
-            b'S' => Some(ModemLine::Dsr),
+        self.stands_at(at, |byte| match char::from(byte) {
+            'C' => Some(ModemLine::Cts),
+            'D' => Some(ModemLine::Dcd),
+            'S' => Some(ModemLine::Dsr),
             _ => None,
         })
     }
@@ -125,9 +125,9 @@ impl<'a> Word<'a> {
     pub fn level(self, at: u8) -> Result<bool, Fault>
         ensures { result ≡ spot_at level_digit self.entry at }
     {
-        self.stands_at(at, |byte| match byte {
-            b'0' => Some(false),
-            b'1' => Some(true),
+        self.stands_at(at, |byte| match char::from(byte) {
+            '0' => Some(false),
+            '1' => Some(true),
             _ => None,
         })
     }
