@@ -21,6 +21,7 @@ use Rattle.channel.specs.Receiving.{reading, emptied}
 use Rattle.channel.specs.Channel.{isr_read, rdr_read, tdr_written, modem_changed, with_interrupts}
 use Rattle.dacia.specs.declared.chip.Chip.{Chip}
 use Rattle.terms.specs.declared.register.Register.TheVariants.{Data}
+use Rattle.terms.specs.ChannelId.{other as far}
 use Rattle.dacia.specs.Access.{select_at, channel_at, register_at, place_at, access_at}
 use Rattle.dacia.specs.Chip.{channel_of, with_channel, answer_of, after_read_of, after_write_of, read_once, after_read_once, write_once, after_write_once}
 use Rattle.dacia.specs.Separation.{same}
@@ -30,7 +31,7 @@ use Rattle.link.proofs.Links.{LinkInv, cycle_inv, write_inv, read_inv, cts_inv}
 use Rattle.board.specs.Board.{State, with_chip, cycle_answer, after_cycle}
 use Rattle.board.specs.Sweep.{Order, cycles, entries, written, sweep_by}
 use Rattle.board.specs.Calls.{Call, read, enable, send, write_above, modem, cycle, sweep, accepted, step, Seen, did_read, did_enable, did_send, did_write_above, did_modem, did_sweep, did_refuse, seen, Played, play_one, play}
-use Rattle.board.specs.Delivery.{far, line_of, cts_after, cts_of, is_fresh, is_replaced, past_reading, past_after, past_of, past_sweep}
+use Rattle.board.specs.Delivery.{line_of, cts_after, cts_of, is_fresh, is_replaced, past_reading, past_after, past_of, past_sweep}
 use Rattle.board.proofs.Records.{words_more}
 use Rattle.board.proofs.Directions.{link_of, Steady, cycle_link, cycle_steady, cycle_level}
 

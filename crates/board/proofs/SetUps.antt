@@ -6,6 +6,7 @@ use Rattle.terms.specs.declared.channel_id.ChannelId.TheVariants.{One, Two}
 use Rattle.terms.specs.declared.refusal.Refusal.{Refusal}
 use Rattle.terms.specs.declared.refusal.Refusal.TheVariants.{BadControl, BadFormat, LineNotQuiet}
 use Rattle.terms.specs.declared.register.Register.TheVariants.{Interrupt, Control, Data}
+use Rattle.terms.specs.ChannelId.{other as far}
 use Rattle.serial.specs.declared.receiver.Receiver.TheVariants.{Hunting}
 use Rattle.serial.specs.declared.transmitter.Transmitter.TheVariants.{Resting}
 use Rattle.serial.specs.Frame.{bit}
@@ -21,7 +22,7 @@ use Rattle.link.specs.Past.{only}
 use Rattle.link.proofs.Links.{Clean, start_inv, arrives}
 use Rattle.board.specs.Board.{State, with_chip, bad_control, lines_quiet, set_up_answer, set_up_chip, after_set_up}
 use Rattle.board.specs.Calls.{Played, started, play}
-use Rattle.board.specs.Delivery.{far, line_of, past_of, byte_at, Delivered, divisor_of, Delivers}
+use Rattle.board.specs.Delivery.{line_of, past_of, byte_at, Delivered, divisor_of, Delivers}
 use Rattle.board.proofs.Turns.{settings}
 use Rattle.board.proofs.Directions.{link_of, both}
 use Rattle.board.proofs.Deliveries.{Inv, play_inv}

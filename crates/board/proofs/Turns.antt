@@ -7,11 +7,11 @@ use Rattle.channel.specs.declared.control.Control.{Control}
 use Rattle.channel.specs.declared.receiving.Receiving.{Receiving}
 use Rattle.channel.specs.declared.channel.Channel.{Channel}
 use Rattle.channel.specs.declared.channel.ChannelAnswer.{ChannelAnswer}
-use Rattle.channel.specs.declared.channel.Ticks.{Ticks}
+use Rattle.channel.specs.declared.channel.Marks.{Marks}
 use Rattle.channel.specs.Control.{rate_code, divisor, format_of}
 use Rattle.channel.specs.Sender.{sent}
 use Rattle.channel.specs.Receiving.{heard_by}
-use Rattle.channel.specs.Channel.{with_count, counting_by}
+use Rattle.channel.specs.Channel.{with_count, no_marks, counting_by}
 use Rattle.channel.specs.Calls.{heard_if, sent_if, answering, cycled}
 
 -- what set-up writes, and nothing in a list of calls changes
@@ -29,9 +29,9 @@ pub record Turned (x : Format) (c : Channel) (rxd b : Bool) (a : ChannelAnswer) 
 -- the cycle by whether the count stays below the divisor
 abbrev cycled_if : Bool → Bool → Channel → ChannelAnswer × Channel
 cycled_if b rxd c =
-    let t : Ticks × Channel = cond b (record { receiver = false; transmitter = false }, with_count (c.count + 1) c) (record { receiver = true; transmitter = true }, with_count 0 c) in
-    let h = heard_if t.0.receiver rxd t.1 in
-    answering h.0 (sent_if t.0.transmitter h.1)
+    let t : Marks × Channel = cond b (no_marks, with_count (c.count + 1) c) (record { rxc = true; txc = true }, with_count 0 c) in
+    let h = heard_if t.0.rxc rxd t.1 in
+    answering h.0 (sent_if t.0.txc h.1)
 
 turned_by : (cr fr : ℕ) (c : Channel) (rxd : Bool) → c.control ≡ settings cr fr → (b : Bool) →
     Turned (format_of cr fr) c rxd b (cycled_if b rxd c).0 (cycled_if b rxd c).1
@@ -47,13 +47,13 @@ turned_by cr fr c rxd e false = record {
 -- the cycle by the divisor
 abbrev cycled_by : Option ℕ → Bool → Channel → ChannelAnswer × Channel
 cycled_by o rxd c =
-    let t = counting_by o false false c in
-    let h = heard_if t.0.receiver rxd t.1 in
-    answering h.0 (sent_if t.0.transmitter h.1)
+    let t = counting_by o no_marks c in
+    let h = heard_if t.0.rxc rxd t.1 in
+    answering h.0 (sent_if t.0.txc h.1)
 
 -- a cycle with the marks of none, at rate codes 0 to 14
 pub turned : (cr fr D : ℕ) (c : Channel) (rxd : Bool) → divisor (rate_code cr) ≡ Some D → c.control ≡ settings cr fr →
-    Turned (format_of cr fr) c rxd (ltb (c.count + 1) D) (cycled rxd false false c).0 (cycled rxd false false c).1
+    Turned (format_of cr fr) c rxd (ltb (c.count + 1) D) (cycled rxd no_marks c).0 (cycled rxd no_marks c).1
 turned cr fr D c rxd dv e =
     let o : divisor (rate_code c.control.cr) ≡ Some D = ap (λ k. divisor (rate_code k.cr)) e ∙ dv in
     let P : Option ℕ → Type 0 = λ z. Turned (format_of cr fr) c rxd (ltb (c.count + 1) D) (cycled_by z rxd c).0 (cycled_by z rxd c).1 in

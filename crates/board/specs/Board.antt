@@ -1,10 +1,10 @@
 -- The board: TxD1 goes into line A, whose answer is RxD2, and TxD2 into line B, whose answer is RxD1.
-use Rattle.std.specs.Prelude.{ℕ, Bool, false, cond, ◌&&◌, ◌||◌, List, Ok, Err, Result, ◌==◌}
+use Rattle.std.specs.Prelude.{ℕ, Bool, cond, ◌&&◌, ◌||◌, List, Ok, Err, Result, ◌==◌}
 use Rattle.terms.specs.declared.refusal.Refusal.{Refusal}
 use Rattle.terms.specs.declared.refusal.Refusal.TheVariants.{BadControl, BadFormat, LineNotQuiet}
 use Rattle.serial.specs.Frame.{bit}
 use Rattle.channel.specs.Control.{rate_code}
-use Rattle.channel.specs.Channel.{txd_of}
+use Rattle.channel.specs.Channel.{txd_of, no_marks}
 use Rattle.dacia.specs.declared.chip.Chip.{Chip}
 use Rattle.dacia.specs.declared.chip.Inputs.{Inputs}
 use Rattle.dacia.specs.Chip.{ChipAnswer, newly_reset, chip_cycled, after_read_once, after_write_once}
@@ -28,7 +28,7 @@ txd2 s = txd_of s.chip.channels.two
 
 -- the answers of the lines are the levels of RxD; no cycle of a board is marked RxC or TxC
 abbrev pub inputs : State → Inputs
-inputs s = record { rxd1 = leaves s.b (txd2 s); rxd2 = leaves s.a (txd1 s); marks = record { rxc = false; txc = false } }
+inputs s = record { rxd = record { one = leaves s.b (txd2 s); two = leaves s.a (txd1 s) }; marks = no_marks }
 
 -- a cycle of the board
 unfoldable pub cycle_answer : State → ChipAnswer

@@ -15,6 +15,8 @@ use Rattle.terms.specs.declared.register.Register.TheVariants.{Interrupt, Contro
 use Rattle.terms.specs.declared.report.ReportKind.{ReportKind}
 use Rattle.terms.specs.ModemLine.{modem_bit}
 use Rattle.terms.specs.Note.{read_note_number, write_note_number}
+-- the channel at the far end is the other one
+use Rattle.terms.specs.ChannelId.{other as far}
 use Rattle.serial.specs.declared.format.Format.{Format}
 use Rattle.serial.specs.Format.{frame_bits, cut}
 use Rattle.serial.specs.Frame.{bit}
@@ -26,11 +28,6 @@ use Rattle.link.specs.Past.{Past, nothing_yet, arrived_of, kept_of, only, row_af
 use Rattle.board.specs.declared.record.Record.{Record}
 use Rattle.board.specs.Board.{State}
 use Rattle.board.specs.Calls.{Call, Seen, did_read, did_enable, did_send, did_write_above, did_modem, did_cycle, did_sweep, did_refuse, Played, play, started}
-
--- the channel at the far end
-abbrev pub far : ChannelId → ChannelId
-far One = Two
-far Two = One
 
 -- the line that the words of a channel travel
 abbrev pub line_of : ChannelId → State → List Bool

@@ -14,6 +14,7 @@ use dacia::chip::{Chip, ChipAnswer, Inputs, PoweredChip};
 use line::line::Line;
 use std::marker::Model;
 use terms::channel_id::ChannelId;
+use terms::channels::Channels;
 use terms::modem_line::ModemLine;
 use terms::note::{Reading, WriteNote};
 use terms::refusal::Refusal;
@@ -90,8 +91,10 @@ impl<A: Line, B: Line> Board<A, B> {
         let rxd2 = self.a.pass(txd1);
         let rxd1 = self.b.pass(txd2);
         self.chip.cycle(Inputs {
-            rxd1,
-            rxd2,
+            rxd: Channels {
+                one: rxd1,
+                two: rxd2,
+            },
             marks: Marks {
                 rxc: false,
                 txc: false,
@@ -170,6 +173,8 @@ impl<A: Line, B: Line> Board<A, B> {
         let next = put(records, at, cycle, ChannelId::One, answer.one.report);
         put(records, next, cycle, ChannelId::Two, answer.two.report)
     }
+
+    // From here on each call is the chip's own. They are no trait that chip and board have: each of their callers would have to import it.
 
     // Ends a read on the board's chip.
     pub fn end_read(&mut self, access: ReadAccess) -> Result<Reading, Refusal>

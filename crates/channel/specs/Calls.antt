@@ -8,6 +8,7 @@ use Rattle.terms.specs.declared.note.Reading.{Reading}
 use Rattle.terms.specs.declared.note.WriteNote.{WriteNote}
 use Rattle.terms.specs.declared.report.Report.{Report}
 use Rattle.channel.specs.declared.channel.Channel.{Channel}
+use Rattle.channel.specs.declared.channel.Marks.{Marks}
 use Rattle.channel.specs.declared.channel.ChannelAnswer.{ChannelAnswer}
 use Rattle.channel.specs.Interrupts.{ier_written}
 use Rattle.channel.specs.Sender.{tdr_note}
@@ -56,8 +57,8 @@ abbrev pub answering : Option Report → Channel → ChannelAnswer × Channel
 answering r c = (record { txd = txd_of c; irq = irq_of c; report = r }, c)
 
 -- a cycle: the count, then the receiver, then the transmitter
-abbrev pub cycled : Bool → Bool → Bool → Channel → ChannelAnswer × Channel
-cycled rxd rxc txc c =
-    let t = clocked rxc txc c in
-    let h = heard_if t.0.receiver rxd t.1 in
-    answering h.0 (sent_if t.0.transmitter h.1)
+abbrev pub cycled : Bool → Marks → Channel → ChannelAnswer × Channel
+cycled rxd m c =
+    let t = clocked m c in
+    let h = heard_if t.0.rxc rxd t.1 in
+    answering h.0 (sent_if t.0.txc h.1)

@@ -14,7 +14,7 @@ use Rattle.channel.specs.declared.interrupts.Interrupts.{Interrupts}
 use Rattle.channel.specs.declared.sender.Sender.{Sender}
 use Rattle.channel.specs.declared.receiving.Receiving.{Receiving}
 use Rattle.channel.specs.declared.channel.Channel.{Channel}
-use Rattle.channel.specs.declared.channel.Ticks.{Ticks}
+use Rattle.channel.specs.declared.channel.Marks.{Marks}
 use Rattle.channel.specs.Bits.{byte_of}
 use Rattle.channel.specs.Control.{rate_code, divisor, format_of}
 use Rattle.channel.specs.Modem.{modem_set, seen}
@@ -160,14 +160,18 @@ heard_on l c =
 abbrev pub sent_on : Channel → Channel
 sent_on c = following all_sources c (with_sender (sent (format c) (bit c.control.acr 1) c.modem.cts.level c.sender) c)
 
+-- no part ticks
+abbrev pub no_marks : Marks
+no_marks = record { rxc = false; txc = false }
+
 -- both parts tick as the count reaches the divisor, and it returns to 0
-abbrev pub counting : ℕ → Channel → Ticks × Channel
-counting d c = cond (nat_lt (c.count + 1) d) (record { receiver = false; transmitter = false }, with_count (c.count + 1) c) (record { receiver = true; transmitter = true }, with_count 0 c)
+abbrev pub counting : ℕ → Channel → Marks × Channel
+counting d c = cond (nat_lt (c.count + 1) d) (no_marks, with_count (c.count + 1) c) (record { rxc = true; txc = true }, with_count 0 c)
 
 -- with rate code 15 the count rests, and the marks of the cycle decide
-abbrev pub counting_by : Option ℕ → Bool → Bool → Channel → Ticks × Channel
-counting_by (Some d) rxc txc c = counting d c
-counting_by None rxc txc c = (record { receiver = rxc; transmitter = txc }, c)
+abbrev pub counting_by : Option ℕ → Marks → Channel → Marks × Channel
+counting_by (Some d) m c = counting d c
+counting_by None m c = (m, c)
 
-abbrev pub clocked : Bool → Bool → Channel → Ticks × Channel
-clocked rxc txc c = counting_by (divisor (rate_code c.control.cr)) rxc txc c
+abbrev pub clocked : Marks → Channel → Marks × Channel
+clocked m c = counting_by (divisor (rate_code c.control.cr)) m c

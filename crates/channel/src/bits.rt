@@ -11,7 +11,8 @@ pub(crate) fn is_set(byte: u8, k: u8) -> bool
     (byte >> k) & 1 == 1
 }
 
-// The byte of eight bits, bit 7 first. They are eight parameters: nothing but the one byte that is made here ever holds the eight together.
+// The byte of eight bits, bit 7 first. They are eight parameters and no array: nothing else ever holds the eight together, and the sum says
+// their weights as the definition does, where a fold would hide them.
 pub(crate) fn byte_of(
     b7: bool,
     b6: bool,

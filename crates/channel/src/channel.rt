@@ -31,7 +31,7 @@ pub struct Channel {
     count: u16,
 }
 
-// Whether a cycle is marked RxC, and whether it is marked TxC.
+// Which of its two parts a cycle ticks: RxC ticks the receiver, TxC the transmitter. At rate code 15 they are marked from outside.
 #[derive(Clone, Copy, PartialEq, Eq, Debug)]
 pub struct Marks {
     pub rxc: bool,
@@ -44,13 +44,6 @@ pub struct ChannelAnswer {
     pub txd: bool,
     pub irq: bool,
     pub report: Option<Report>,
-}
-
-// Which of the two parts tick in a cycle.
-#[derive(Clone, Copy)]
-pub struct Ticks {
-    receiver: bool,
-    transmitter: bool,
 }
 
 impl Channel {
@@ -80,7 +73,7 @@ impl Channel {
     pub fn reset(&mut self)
         ensures { self.new ≡ after_reset self.old }
     {
-        self.control.fr = self.control.fr | 3;
+        self.control.fr |= 3;
         self.control.acr = 0;
         self.modem.clear_changes();
         self.interrupts = Interrupts::default();
@@ -117,10 +110,7 @@ impl Channel {
     fn any(&self) -> bool
         ensures { result ≡ any_set self.now }
     {
-        if self.flags(false) != 0 {
-            return true;
-        }
-        self.modem.cts.level && !is_set(self.control.cr, 4)
+        self.flags(false) != 0 || (self.modem.cts.level && !is_set(self.control.cr, 4))
     }
 
     // An action, after which the requests follow the sources.
@@ -248,22 +238,17 @@ impl Channel {
     }
 
     // The count of cycles, and which parts tick.
-    fn clock(&mut self, marks: Marks) -> Ticks
-        ensures { (result, self.new) ≡ clocked marks.rxc marks.txc self.old }
+    fn clock(&mut self, marks: Marks) -> Marks
+        ensures { (result, self.new) ≡ clocked marks self.old }
     {
-        match self.control.divisor() {
-            Some(divisor) => {
-                let tick = u32::from(self.count) + 1 >= u32::from(divisor);
-                self.count = if tick { 0 } else { self.count + 1 };
-                Ticks {
-                    receiver: tick,
-                    transmitter: tick,
-                }
-            }
-            None => Ticks {
-                receiver: marks.rxc,
-                transmitter: marks.txc,
-            },
+        let Some(divisor) = self.control.divisor() else {
+            return marks;
+        };
+        let full = u32::from(self.count) + 1 >= u32::from(divisor);
+        self.count = if full { 0 } else { self.count + 1 };
+        Marks {
+            rxc: full,
+            txc: full,
         }
     }
 
@@ -297,11 +282,11 @@ impl Channel {
 
     // One cycle, with the level of RxD and the marks of RxC and TxC.
     pub fn cycle(&mut self, rxd: bool, marks: Marks) -> ChannelAnswer
-        ensures { (result, self.new) ≡ cycled rxd marks.rxc marks.txc self.old }
+        ensures { (result, self.new) ≡ cycled rxd marks self.old }
     {
         let ticks = self.clock(marks);
-        let report = if ticks.receiver { self.hear(rxd) } else { None };
-        if ticks.transmitter {
+        let report = if ticks.rxc { self.hear(rxd) } else { None };
+        if ticks.txc {
             self.send();
         }
         ChannelAnswer {

@@ -75,11 +75,7 @@ impl Control {
     {
         Format {
             bits: data_bits(self.fr),
-            parity: if is_set(self.fr, 2) {
-                Some(parity(self.fr))
-            } else {
-                None
-            },
+            parity: is_set(self.fr, 2).then_some(parity(self.fr)),
             stops: if is_set(self.cr, 5) {
                 StopBits::Two
             } else {

@@ -1,7 +1,7 @@
 // The interrupt sources of a channel: which are enabled, and which have a request. Bits 6-0 are the sources in the order of ISR.
 // They are bytes and no set over an enum: a write to IER and the two ISR bytes of a change come as such bytes, and nothing asks for one source.
 ghost use Rattle.std.specs.Prelude.{◌≡◌, Bool, ◌==◌};
-ghost use Rattle.channel.specs.Interrupts.{followed, ier_written, dropped};
+ghost use Rattle.channel.specs.Interrupts.{followed, ier_written};
 
 use crate::bits::is_set;
 
@@ -31,11 +31,11 @@ impl Interrupts {
         ensures { self.new ≡ ier_written byte self.old }
     {
         if is_set(byte, 7) {
-            self.enabled = self.enabled | (byte & 0x7f);
+            self.enabled |= byte & 0x7f;
         } else {
-            self.enabled = self.enabled & (byte ^ 0x7f);
+            self.enabled &= byte ^ 0x7f;
         }
-        self.requests = self.requests & self.enabled;
+        self.requests &= self.enabled;
     }
 
     // IRQ: low while there is a request.

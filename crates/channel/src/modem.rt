@@ -21,7 +21,7 @@ impl ModemInput {
     }
 }
 
-// Three fields and no array by the line: the other modules ask for an input by its name, and would have to give its place.
+// Three fields and no array by the line: the three arms below would then be those that give a line's place.
 #[derive(Clone, Copy, Default)]
 pub struct Modem {
     pub(crate) cts: ModemInput,

@@ -19,6 +19,7 @@ pub struct Errors {
     pub(crate) brk: bool,
 }
 
+// RDRF is a flag beside RDR, which keeps its word when it was read; and `asleep` one beside CDR, which keeps its byte when the sleep is over.
 #[derive(Clone, Copy)]
 pub struct Receiving {
     pub(crate) rdr: u8,

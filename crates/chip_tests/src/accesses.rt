@@ -7,6 +7,7 @@ use dacia::chip::{Chip, Inputs, PoweredChip};
 use std::process::Abort;
 use std::test::*;
 use terms::channel_id::ChannelId;
+use terms::channels::Channels;
 use terms::modem_line::ModemLine;
 use terms::note::WriteNote;
 use terms::refusal::Refusal;
@@ -31,8 +32,10 @@ fn refused_write(chip: &mut Chip, select: u8) -> Option<Refusal> {
 // One cycle with RxD1 low.
 fn step(chip: &mut Chip) {
     chip.cycle(Inputs {
-        rxd1: LOW,
-        rxd2: HIGH,
+        rxd: Channels {
+            one: LOW,
+            two: HIGH,
+        },
         marks: RXC_TXC,
     });
 }

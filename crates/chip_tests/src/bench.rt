@@ -7,6 +7,7 @@ use dacia::chip::{Chip, Inputs, PoweredChip};
 use std::process::Abort;
 use std::test::*;
 use terms::channel_id::ChannelId;
+use terms::channels::Channels;
 use terms::modem_line::ModemLine;
 use terms::note::{ReadNote, Reading, WriteNote};
 use terms::refusal::Refusal;
@@ -174,11 +175,12 @@ pub(crate) fn cycle_of(
     other: bool,
     marks: Marks,
 ) -> ChannelAnswer {
-    let (rxd1, rxd2) = match channel {
-        ChannelId::One => (own, other),
-        ChannelId::Two => (other, own),
+    let mut rxd = Channels {
+        one: other,
+        two: other,
     };
-    *chip.cycle(Inputs { rxd1, rxd2, marks }).at(channel)
+    *rxd.at_mut(channel) = own;
+    *chip.cycle(Inputs { rxd, marks }).at(channel)
 }
 
 #[derive(Drop)]

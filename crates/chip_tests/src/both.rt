@@ -5,6 +5,7 @@ use dacia::chip::{Chip, ChipAnswer, Inputs, PoweredChip};
 use std::process::Abort;
 use std::test::*;
 use terms::channel_id::ChannelId;
+use terms::channels::Channels;
 use terms::modem_line::ModemLine;
 use terms::note::{Reading, WriteNote};
 use terms::refusal::Refusal;
@@ -24,8 +25,10 @@ fn set_up() -> Result<Chip, Refusal> {
 // One cycle of a chip with each TxD wired to the other channel's RxD.
 fn wired_cycle(chip: &mut Chip) -> ChipAnswer {
     let inputs = Inputs {
-        rxd1: chip.txd(ChannelId::Two),
-        rxd2: chip.txd(ChannelId::One),
+        rxd: Channels {
+            one: chip.txd(ChannelId::Two),
+            two: chip.txd(ChannelId::One),
+        },
         marks: UNMARKED,
     };
     chip.cycle(inputs)
@@ -168,8 +171,10 @@ fn a_cycle_answers_the_levels_that_it_leaves(rt: HostRuntime) -> Result<(), Fail
             done(thrown(&mut dice), &mut chip, channel);
         }
         let inputs = Inputs {
-            rxd1: dice.byte() < 16,
-            rxd2: dice.byte() < 240,
+            rxd: Channels {
+                one: dice.byte() < 16,
+                two: dice.byte() < 240,
+            },
             marks: Marks {
                 rxc: dice.level(),
                 txc: dice.level(),

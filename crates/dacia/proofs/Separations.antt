@@ -4,6 +4,7 @@ use Rattle.std.proofs.lemmas.Bool.{true≢false}
 use Rattle.terms.specs.declared.channel_id.ChannelId.{ChannelId}
 use Rattle.terms.specs.declared.channel_id.ChannelId.TheVariants.{One, Two}
 use Rattle.terms.specs.declared.refusal.Refusal.TheVariants.{NoSuchSelect}
+use Rattle.terms.specs.Channels.{value_of}
 use Rattle.channel.specs.declared.channel.Channel.{Channel}
 use Rattle.channel.specs.declared.channel.ChannelAnswer.{ChannelAnswer}
 use Rattle.channel.specs.Channel.{txd_of, irq_of, after_reset, modem_changed}
@@ -41,16 +42,15 @@ reset_channel One c = refl
 reset_channel Two c = refl
 
 abbrev rxd : ChannelId → Inputs → Bool
-rxd One i = i.rxd1
-rxd Two i = i.rxd2
+rxd ch i = value_of ch i.rxd
 
 cycle_channel : (ch : ChannelId) (i : Inputs) (c : Chip) →
-    ◌≡◌ {A = ChannelAnswer × Channel} (answer_of ch (chip_cycled i c).0, channel_of ch (chip_cycled i c).1) (cycled (rxd ch i) i.marks.rxc i.marks.txc (channel_of ch c))
+    ◌≡◌ {A = ChannelAnswer × Channel} (answer_of ch (chip_cycled i c).0, channel_of ch (chip_cycled i c).1) (cycled (rxd ch i) i.marks (channel_of ch c))
 cycle_channel One i c = refl
 cycle_channel Two i c = refl
 
 cycle_own : (ch : ChannelId) (i : Inputs) (x : Channel) →
-    cycled (rxd ch i) i.marks.rxc i.marks.txc x ≡ cycled (rxd ch (own_inputs ch i)) (own_inputs ch i).marks.rxc (own_inputs ch i).marks.txc x
+    cycled (rxd ch i) i.marks x ≡ cycled (rxd ch (own_inputs ch i)) i.marks x
 cycle_own One i x = refl
 cycle_own Two i x = refl
 
@@ -125,7 +125,7 @@ module _ (ch : ChannelId) (c d : Chip) (agree : channel_of ch c ≡ channel_of c
   alike (write s b) h = write_alike s b (ltb 7 s) refl h
   alike (modem e line l) h = record { answers = refl; leaves = moved ch e (modem_changed line l) c d h agree }
   alike (cycle i) h =
-      let whole = cycle_channel ch i c ∙ ap (cycled (rxd ch i) i.marks.rxc i.marks.txc) agree ∙ cycle_own ch i (channel_of ch d) ∙ sym (cycle_channel ch (own_inputs ch i) d) in
+      let whole = cycle_channel ch i c ∙ ap (cycled (rxd ch i) i.marks) agree ∙ cycle_own ch i (channel_of ch d) ∙ sym (cycle_channel ch (own_inputs ch i) d) in
       record { answers = ap (λ a. reports a.0.report) whole; leaves = ap (λ a. a.1) whole }
 
 -- calls that are struck out leave the channel as it was

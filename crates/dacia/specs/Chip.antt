@@ -90,6 +90,6 @@ modem_on ch line l c = with_channel ch (modem_changed line l (channel_of ch c)) 
 -- a cycle: each channel has its RxD, and both have RxC and TxC
 abbrev pub chip_cycled : Inputs → Chip → ChipAnswer × Chip
 chip_cycled i c =
-    let one = cycled i.rxd1 i.marks.rxc i.marks.txc c.channels.one in
-    let two = cycled i.rxd2 i.marks.rxc i.marks.txc c.channels.two in
+    let one = cycled i.rxd.one i.marks c.channels.one in
+    let two = cycled i.rxd.two i.marks c.channels.two in
     (record { one = one.0; two = two.0 }, record { channels = record { one = one.1; two = two.1 } })

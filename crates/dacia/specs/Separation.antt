@@ -1,14 +1,14 @@
 -- Separation: what one channel answers and shows does not depend on what is done to the other.
 use Rattle.std.specs.Prelude.{◌≡◌, ℕ, Bool, true, cond, ◌||◌, List, [], ◌∷◌, Option, Ok, Err, Result, ◌==◌, nat_lt}
 use Rattle.terms.specs.declared.channel_id.ChannelId.{ChannelId}
-use Rattle.terms.specs.declared.channel_id.ChannelId.TheVariants.{One, Two}
 use Rattle.terms.specs.declared.modem_line.ModemLine.{ModemLine}
 use Rattle.terms.specs.declared.note.ReadNote.{ReadNote}
 use Rattle.terms.specs.declared.note.Reading.{Reading}
 use Rattle.terms.specs.declared.note.WriteNote.{WriteNote}
 use Rattle.terms.specs.declared.refusal.Refusal.{Refusal}
 use Rattle.terms.specs.declared.report.Report.{Report}
-use Rattle.terms.specs.ChannelId.{channel_number}
+use Rattle.terms.specs.ChannelId.{channel_number, other}
+use Rattle.terms.specs.Channels.{with_value}
 use Rattle.terms.specs.Refusal.{refusal_number}
 use Rattle.channel.specs.Channel.{txd_of, irq_of}
 use Rattle.dacia.specs.declared.chip.Chip.{Chip}
@@ -82,8 +82,7 @@ concerns ch (cycle i) = true
 
 -- the other channel's RxD struck out: any two levels there are alike
 abbrev pub own_inputs : ChannelId → Inputs → Inputs
-own_inputs One i = record i { rxd2 = true }
-own_inputs Two i = record i { rxd1 = true }
+own_inputs ch i = record i { rxd = with_value (other ch) i.rxd true }
 
 unfoldable pub own : ChannelId → Call → Call
 own ch reset = reset

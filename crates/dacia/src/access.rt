@@ -83,6 +83,17 @@ impl Place {
 }
 
 impl<K: Purpose> Access<K> {
+    // Ends an access that was opened, and gives the place at which it works.
+    pub(crate) fn spend(self) -> Place
+        ensures { result ≡ self.place }
+    {
+        let Access {
+            place,
+            kind: PhantomData,
+        } = self;
+        place
+    }
+
     // Opens an access; a select above 7 opens nothing.
     pub fn open(select: u8) -> Result<Access<K>, Refusal>
         ensures is { result ≡ access_opened select }

@@ -6,9 +6,8 @@ ghost use Rattle.dacia.specs.Access.{opens_by, reads_by, read_by};
 ghost use Rattle.dacia.specs.Chip.{channel_of, powered_chip, first_reset, chip_reset, read_ended, after_read_ended, write_ended, after_write_ended, modem_on, chip_cycled, read_once, after_read_once, write_once, after_write_once};
 ghost use Rattle.dacia.specs.Separation.{Separated};
 
-use crate::access::{Access, ReadAccess, WriteAccess};
+use crate::access::{ReadAccess, WriteAccess};
 use channel::channel::{Channel, ChannelAnswer, Marks};
-use std::marker::PhantomData;
 use terms::channel_id::ChannelId;
 use terms::channels::Channels;
 use terms::modem_line::ModemLine;
@@ -27,11 +26,10 @@ pub struct Chip {
     channels: Channels<Channel>,
 }
 
-// The input levels of a cycle, and its marks.
+// The levels of RxD in a cycle, and its marks.
 #[derive(Clone, Copy, PartialEq, Eq, Debug)]
 pub struct Inputs {
-    pub rxd1: bool,
-    pub rxd2: bool,
+    pub rxd: Channels<bool>,
     pub marks: Marks,
 }
 
@@ -76,10 +74,7 @@ impl Chip {
         ensures leaves { self.new ≡ after_read_ended access self.old }
         ensures refusals { refused_by result ≡ reads_by access.place.register }
     {
-        let Access {
-            place,
-            kind: PhantomData,
-        } = access;
+        let place = access.spend();
         self.channels.at_mut(place.channel).read(place.register)
     }
 
@@ -88,10 +83,7 @@ impl Chip {
         ensures answers { result ≡ write_ended access self.old }
         ensures leaves { self.new ≡ after_write_ended access byte self.old }
     {
-        let Access {
-            place,
-            kind: PhantomData,
-        } = access;
+        let place = access.spend();
         let channel = self.channels.at_mut(place.channel);
         channel.write(place.register, byte)
     }
@@ -127,8 +119,8 @@ impl Chip {
     pub fn cycle(&mut self, inputs: Inputs) -> ChipAnswer
         ensures { (result, self.new) ≡ chip_cycled inputs self.old }
     {
-        let one = self.channels.one.cycle(inputs.rxd1, inputs.marks);
-        let two = self.channels.two.cycle(inputs.rxd2, inputs.marks);
+        let one = self.channels.one.cycle(inputs.rxd.one, inputs.marks);
+        let two = self.channels.two.cycle(inputs.rxd.two, inputs.marks);
         ChipAnswer { one, two }
     }
 

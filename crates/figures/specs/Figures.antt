@@ -37,10 +37,10 @@ levels cr fr w = let x = format_of cr fr in stretched 16 (bits_from (frame x w) 
 
 -- a cycle that is a tick of the receivers, with a level on RxD1; and one that is a tick of the transmitters
 abbrev pub rx_tick : Bool → Call
-rx_tick l = cycle (record { rxd1 = l; rxd2 = true; marks = record { rxc = true; txc = false } })
+rx_tick l = cycle (record { rxd = record { one = l; two = true }; marks = record { rxc = true; txc = false } })
 
 abbrev pub tx_tick : Call
-tx_tick = cycle (record { rxd1 = true; rxd2 = true; marks = record { rxc = false; txc = true } })
+tx_tick = cycle (record { rxd = record { one = true; two = true }; marks = record { rxc = false; txc = true } })
 
 abbrev pub hearing : List Bool → List Call
 hearing ls = map rx_tick ls

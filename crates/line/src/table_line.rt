@@ -7,10 +7,11 @@ use crate::line::Line;
 const SIZE: usize = 64;
 
 // The first level stands at `head`, modulo the size of the table, and the others follow it round.
-// It is an array with its place, since a line is never refused, and so may ask for no memory.
+// It is an array with its place: the array says by its type that there are always 64 levels, and a line, which is never refused, may ask for
+// no memory. A queue would have to keep that number as an invariant.
 #[derive(Drop)]
 pub struct TableLine {
-    table: [bool; 64],
+    table: [bool; SIZE],
     head: usize,
 }
 
@@ -20,7 +21,7 @@ impl TableLine {
         ensures { held64 result ≡ replicate 64 true }
     {
         TableLine {
-            table: [true; 64],
+            table: [true; SIZE],
             head: 0,
         }
     }

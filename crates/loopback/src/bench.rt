@@ -3,7 +3,6 @@ ghost use Rattle.std.specs.Prelude.{◌≡◌, true, Ok, IfOk};
 ghost use Rattle.terms.specs.Refusal.{refused_by};
 ghost use Rattle.dacia.specs.Access.{place_at, read_opened, opens_by};
 ghost use Rattle.terms.specs.declared.channel_id.ChannelId.TheVariants.{One, Two};
-ghost use Rattle.loopback.specs.Bench.{other};
 ghost use Rattle.loopback.specs.Tally.{no_counts, report_to};
 
 use crate::names::{Level, Name, Note, Shown, Word};
@@ -159,7 +158,7 @@ impl Bench {
         let reading = self.board.read(name.select(channel))?;
         self.log
             .told
-            .at_mut(other(channel))
+            .at_mut(channel.other())
             .sent
             .count_read(reading)?;
         let byte = reading.byte;
@@ -292,7 +291,7 @@ impl Bench {
         println!(rt; "After {} cycles:", self.log.cycle)?;
         for from in ChannelId::BOTH {
             let told = self.log.told.at(from);
-            told.sent.tell(rt, from, other(from))?;
+            told.sent.tell(rt, from, from.other())?;
         }
         Ok(())
     }
@@ -336,7 +335,7 @@ impl Log {
         ensures one { self.new.told.one.sent.counts ≡ report_to Two channel kind self.old.told.one.sent.counts }
         ensures two { self.new.told.two.sent.counts ≡ report_to One channel kind self.old.told.two.sent.counts }
     {
-        self.told.at_mut(other(channel)).sent.count_report(kind);
+        self.told.at_mut(channel.other()).sent.count_report(kind);
     }
 
     fn tell_report(
@@ -372,16 +371,6 @@ impl Log {
             channel.number(),
             Word(word)
         )
-    }
-}
-
-// The channel that a channel talks to.
-fn other(channel: ChannelId) -> ChannelId
-    ensures { result ≡ other channel }
-{
-    match channel {
-        ChannelId::One => ChannelId::Two,
-        ChannelId::Two => ChannelId::One,
     }
 }
 

@@ -9,7 +9,7 @@ use script_words::command::Command;
 use script_words::fault::Fault;
 use script_words::word::Word;
 
-// An enum and no letter beside a word, so that a reader of tokens says by their cases what it does.
+// A case for each command, which borrows its bytes: the project asks for this form, and not for a letter with a word.
 #[derive(Clone, Copy)]
 pub enum Token<'a> {
     Read(Word<'a>),

@@ -2,6 +2,7 @@
 ghost use Rattle.std.specs.Prelude.{◌≡◌, ℕ, ◌/◌, ◌%◌, ◌^◌, ◌<◌};
 ghost use Rattle.serial.specs.Format.{data_bits, stop_bits, stop_at, frame_bits, cut};
 ghost use Rattle.serial.specs.Frame.{check_bit, packed, frame, FrameLaw};
+ghost use Rattle.serial.specs.Transmitter.{frame_ticks};
 
 use crate::parity::Parity;
 
@@ -64,6 +65,13 @@ impl Format {
         ensures { result ≡ frame_bits self }
     {
         self.stop_at() + self.stops.count()
+    }
+
+    // The ticks of a frame: 16 to a bit.
+    pub(crate) fn frame_ticks(self) -> u8
+        ensures { result ≡ frame_ticks self }
+    {
+        16 * self.frame_bits()
     }
 
     // The word with only its data bits.

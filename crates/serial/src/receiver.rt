@@ -19,7 +19,8 @@ pub enum Receiver {
     Waiting,
 }
 
-// A frame that has ended: its word, its parity bit and whether that is wrong (both false without parity), its stop bit, and whether all its bits were low.
+// A frame that has ended: its word, its parity bit and whether that is wrong, its stop bit, and whether all its bits were low.
+// Without parity both flags are false and no `Option`: PAR is then 0 whichever of the two it shows, with no case of its own.
 #[derive(Clone, Copy)]
 pub struct Received {
     pub word: u8,
@@ -62,10 +63,8 @@ impl Gathering {
     fn parity(self) -> u8
         ensures { result ≡ parity_of self.format self.bits }
     {
-        match self.format.parity {
-            Some(_) => bit_at(self.bits, 1 + self.format.bits.count()),
-            None => 0,
-        }
+        let place = 1 + self.format.bits.count();
+        self.format.parity.map_or(0, |_| bit_at(self.bits, place))
     }
 
     // What all the bits of a frame say.

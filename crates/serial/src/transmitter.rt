@@ -20,6 +20,7 @@ pub enum Transmitter {
 }
 
 // What decides over a tick besides the transmitter's own state: the format now set, whether a break is wanted, and the level of CTS.
+// The definitions take the three one by one, as a link without breaks has only two of them.
 #[derive(Clone, Copy)]
 pub struct Setting {
     pub format: Format,
@@ -88,7 +89,7 @@ impl Transmitter {
                 count,
                 ..
             } => {
-                if u16::from(*count) + 1 < 16 * u16::from(own.frame_bits()) {
+                if u16::from(*count) + 1 < u16::from(own.frame_ticks()) {
                     *count += 1;
                     false
                 } else {
@@ -96,7 +97,7 @@ impl Transmitter {
                 }
             }
             Transmitter::Breaking { format: own, count } => {
-                let end = 16 * own.frame_bits();
+                let end = own.frame_ticks();
                 if u16::from(*count) + 1 < u16::from(end) {
                     *count += 1;
                 } else if set.break_on {

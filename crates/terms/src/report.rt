@@ -31,7 +31,7 @@ impl fmt::Display for ReportKind {
     }
 }
 
-// Passed, lost and kept carry the word, a break carries 0.
+// Passed, lost and kept carry the word, a break carries 0, so that a report has a kind and a word as the record of a sweep has.
 #[derive(Clone, Copy, PartialEq, Eq, Debug)]
 pub struct Report {
     pub kind: ReportKind,

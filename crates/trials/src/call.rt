@@ -107,8 +107,10 @@ impl Stretch {
     // The inputs of a cycle, given the levels of TxD.
     pub(crate) fn inputs(self, cycle: u32, txd: Channels<bool>) -> Inputs {
         Inputs {
-            rxd1: self.rxd.one.level(cycle, txd.two),
-            rxd2: self.rxd.two.level(cycle, txd.one),
+            rxd: Channels {
+                one: self.rxd.one.level(cycle, txd.two),
+                two: self.rxd.two.level(cycle, txd.one),
+            },
             marks: self.marked.at(cycle),
         }
     }

@@ -39,8 +39,8 @@ impl Played for Chip {
             self,
             Pins {
                 rxd: Both {
-                    one: inputs.rxd1,
-                    two: inputs.rxd2,
+                    one: inputs.rxd.one,
+                    two: inputs.rxd.two,
                 },
                 marks: Ticks {
                     receiver: inputs.marks.rxc,
