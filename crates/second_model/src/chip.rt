@@ -150,7 +150,7 @@ impl Chip {
     }
 
     // What the calls do not show.
-    pub fn view(&self, side: Side) -> View<'_> {
+    pub fn view(&self, side: Side) -> View {
         self.channels.at(side).view()
     }
 }
