@@ -15,20 +15,6 @@ use terms::refusal::Refusal;
 // The selects that can be read.
 const READABLE: [u8; 6] = [0, 1, 3, 4, 5, 7];
 
-// Why no read is opened; one that is opened is ended.
-fn refused_read(chip: &mut Chip, select: u8) -> Option<Refusal> {
-    ReadAccess::open(select)
-        .map(|access| chip.end_read(access))
-        .err()
-}
-
-// Why no write is opened; one that is opened is ended.
-fn refused_write(chip: &mut Chip, select: u8) -> Option<Refusal> {
-    WriteAccess::open(select)
-        .map(|access| chip.end_write(access, 0xff))
-        .err()
-}
-
 // One cycle with RxD1 low.
 fn step(chip: &mut Chip) {
     chip.cycle(Inputs {
@@ -81,13 +67,17 @@ fn no_access_opens_above_select_7(rt: HostRuntime) -> Result<(), Fail> {
     let mut chip = busy_chip()?;
     for select in 8..=255 {
         assert_eq!(rt;
-            refused_read(&mut chip, select),
+            ReadAccess::open(select)
+                .map(|access| chip.end_read(access))
+                .err(),
             Some(Refusal::NoSuchSelect),
             "{}",
             select
         );
         assert_eq!(rt;
-            refused_write(&mut chip, select),
+            WriteAccess::open(select)
+                .map(|access| chip.end_write(access, 0xff))
+                .err(),
             Some(Refusal::NoSuchSelect),
             "{}",
             select
@@ -107,8 +97,22 @@ fn no_access_opens_above_select_7(rt: HostRuntime) -> Result<(), Fail> {
 fn every_access_opens_up_to_select_7(rt: HostRuntime) -> Result<(), Fail> {
     let mut chip = busy_chip()?;
     for select in 0..8 {
-        assert_eq!(rt; refused_read(&mut chip, select), None, "{}", select);
-        assert_eq!(rt; refused_write(&mut chip, select), None, "{}", select);
+        assert_eq!(rt;
+            ReadAccess::open(select)
+                .map(|access| chip.end_read(access))
+                .err(),
+            None,
+            "{}",
+            select
+        );
+        assert_eq!(rt;
+            WriteAccess::open(select)
+                .map(|access| chip.end_write(access, 0xff))
+                .err(),
+            None,
+            "{}",
+            select
+        );
     }
     Ok(())
 }

@@ -260,9 +260,10 @@ impl Bench {
         last
     }
 
-    // A frame on RxD; the report in its stop bit.
+    // A frame on RxD; the last report in its stop bits, if there is one.
     pub(crate) fn hears_frame(&mut self, frame: Frame) -> Option<Report> {
-        self.hears_bits(frame.row())
+        self.hears_bits(Frame { stops: 0, ..frame }.row());
+        self.hear(HIGH, 16 * u16::from(frame.stops))
     }
 
     // A word on RxD in a plain frame.

@@ -82,7 +82,8 @@ impl Dice {
     }
 }
 
-// What a program does to a channel between two cycles. An enum and no closure, since the same is done to two chips.
+// What a program does to a channel between two cycles. An enum and no closure: those of `thrown` would be of several types,
+// and would have to be boxed.
 #[derive(Clone, Copy)]
 enum Act {
     Read(Register),

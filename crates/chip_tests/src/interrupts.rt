@@ -7,7 +7,7 @@ use terms::channel_id::ChannelId;
 use terms::modem_line::ModemLine;
 use terms::refusal::Refusal;
 
-// What makes a source rise. An enum and no closures, since `CAUSES` is a table of constants.
+// What makes a source rise. An enum and no closures, since tests go through all of them and also name single ones.
 #[derive(Clone, Copy)]
 enum Cause {
     WordTaken,

@@ -7,7 +7,7 @@ use super::outcome::{ReadNote, ReadOut, Report, WriteNote};
 use super::receiver::{Hearing, Receiver};
 use super::registers::{Acr, Settings};
 use super::sources::{Interrupts, Source, Sources};
-use super::transmitter::{Transmitter, Work};
+use super::transmitter::{Doing, Transmitter, Work};
 use super::words::{ErrorFlags, Inbox};
 
 // One channel.
@@ -26,15 +26,15 @@ pub struct Channel {
 
 // What a channel holds that its calls do not show, for the counts of a trial.
 #[derive(Clone, Copy)]
-pub struct View<'a> {
+pub struct View {
     pub requests: Sources,
     pub flags: Sources,
     pub errors: ErrorFlags,
     pub asleep: bool,
     pub show_parity_bit: bool,
     pub tdr_full: bool,
-    pub transmitter: &'a Transmitter,
-    pub hearing: &'a Hearing,
+    pub doing: Doing,
+    pub hearing: Hearing,
     pub false_starts: u32,
     pub other_format: bool,
 }
@@ -224,8 +224,7 @@ impl Channel {
     }
 
     // What the calls do not show.
-    pub(crate) fn view(&self) -> View<'_> {
-        let hearing = self.receiver.hearing();
+    pub(crate) fn view(&self) -> View {
         View {
             requests: self.interrupts.requests,
             flags: self.sources(),
@@ -233,13 +232,13 @@ impl Channel {
             asleep: self.inbox.wakes_at.is_some(),
             show_parity_bit: self.acr.show_parity_bit,
             tdr_full: self.outbox.is_some(),
-            transmitter: &self.transmitter,
-            hearing,
+            doing: self.transmitter.doing(),
+            hearing: self.receiver.hearing(),
             false_starts: self.receiver.false_starts(),
-            other_format: matches!(
-                hearing,
-                Hearing::Gathers(frame) if frame.layout().differs(self.settings.layout)
-            ),
+            other_format: self
+                .receiver
+                .layout()
+                .is_some_and(|layout| layout.differs(self.settings.layout)),
         }
     }
 }

@@ -77,7 +77,7 @@ impl Chip {
     }
 
     // A newly reset chip with these CR and FR values in both channels, whose RDRs were read. The two values are no struct,
-    // as each is written alone and nothing else takes both.
+    // as a set-up alone takes both, and writes each alone.
     pub(crate) fn set_up(control: u8, format: u8) -> Chip {
         let mut chip = Chip::new();
         for side in Side::BOTH {
@@ -150,7 +150,7 @@ impl Chip {
     }
 
     // What the calls do not show.
-    pub fn view(&self, side: Side) -> View<'_> {
+    pub fn view(&self, side: Side) -> View {
         self.channels.at(side).view()
     }
 }

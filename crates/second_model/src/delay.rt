@@ -21,10 +21,11 @@ impl Delay {
 
     // Two lines as one, the first feeding the second.
     pub fn joined(first: Delay, second: Delay) -> Delay {
-        let mut held = second.held;
-        // there is room: the longest line, a joint of joints of 64 levels each, has all 256
-        let _ = held.try_extend_from_slice(&first.held);
-        Delay { held }
+        let mut both = Delay::new(first.held.len() + second.held.len());
+        for level in second.held.iter().chain(&first.held) {
+            both.pass(*level);
+        }
+        both
     }
 
     // Gives a level to the line, and answers the level that leaves it.

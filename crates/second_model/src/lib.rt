@@ -32,5 +32,5 @@ pub use receiver::Hearing;
 pub use script::{Fault, Misfit, Order, ScriptError, ScriptLine, ScriptPlace, read_text};
 pub use side::{Both, Side};
 pub use sources::Sources;
-pub use transmitter::Transmitter;
+pub use transmitter::Doing;
 pub use words::ErrorFlags;

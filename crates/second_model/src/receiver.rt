@@ -4,9 +4,17 @@ use super::bits::number_of;
 use super::format::Layout;
 use arrayvec::ArrayVec;
 
-// What a receiver does.
-#[derive(Drop)]
+// What a receiver does. It stands beside the state of the receiver, since a caller may keep it over the next call.
+#[derive(Clone, Copy, PartialEq, Eq, Debug)]
 pub enum Hearing {
+    Hunts,
+    Gathers,
+    Waits,
+}
+
+// The state of a receiver, by what it does.
+#[derive(Drop)]
+enum State {
     Hunts,
     Gathers(Gathering),
     Waits,
@@ -14,7 +22,7 @@ pub enum Hearing {
 
 // A frame under way: its layout, the levels before the stop bit so far, and the ticks up to the next sample.
 #[derive(Drop)]
-pub struct Gathering {
+struct Gathering {
     layout: Layout,
     samples: ArrayVec<bool, 10>,
     to_sample: u8,
@@ -39,7 +47,7 @@ pub struct Heard {
 // The receiver of a channel.
 #[derive(Drop)]
 pub struct Receiver {
-    hearing: Hearing,
+    state: State,
     false_starts: u32,
 }
 
@@ -51,11 +59,6 @@ impl Gathering {
             samples: ArrayVec::new(),
             to_sample: 8,
         }
-    }
-
-    // The layout of the frame.
-    pub(crate) fn layout(&self) -> Layout {
-        self.layout
     }
 
     // Takes one sample, and answers the frame if it was the stop bit. The next one is due 16 ticks later.
@@ -89,14 +92,26 @@ impl Receiver {
     // A receiver that hunts.
     pub(crate) fn new() -> Receiver {
         Receiver {
-            hearing: Hearing::Hunts,
+            state: State::Hunts,
             false_starts: 0,
         }
     }
 
     // What it does.
-    pub(crate) fn hearing(&self) -> &Hearing {
-        &self.hearing
+    pub(crate) fn hearing(&self) -> Hearing {
+        match self.state {
+            State::Hunts => Hearing::Hunts,
+            State::Gathers(_) => Hearing::Gathers,
+            State::Waits => Hearing::Waits,
+        }
+    }
+
+    // The layout of the frame under way, if there is one.
+    pub(crate) fn layout(&self) -> Option<Layout> {
+        match &self.state {
+            State::Gathers(frame) => Some(frame.layout),
+            State::Hunts | State::Waits => None,
+        }
     }
 
     // How many start bits turned out to be none.
@@ -106,35 +121,31 @@ impl Receiver {
 
     // One tick with the level of RxD and the layout that is set now.
     pub(crate) fn tick(&mut self, level: bool, layout: Layout) -> Option<Heard> {
-        match &mut self.hearing {
-            Hearing::Hunts => {
+        match &mut self.state {
+            State::Hunts => {
                 if !level {
-                    self.hearing = Hearing::Gathers(Gathering::new(layout));
+                    self.state = State::Gathers(Gathering::new(layout));
                 }
                 None
             }
-            Hearing::Waits => {
+            State::Waits => {
                 if level {
-                    self.hearing = Hearing::Hunts;
+                    self.state = State::Hunts;
                 }
                 None
             }
-            Hearing::Gathers(frame) => {
+            State::Gathers(frame) => {
                 frame.to_sample = frame.to_sample.saturating_sub(1);
                 if frame.to_sample > 0 {
                     return None;
                 }
                 if level && frame.samples.is_empty() {
                     self.false_starts = self.false_starts.wrapping_add(1);
-                    self.hearing = Hearing::Hunts;
+                    self.state = State::Hunts;
                     return None;
                 }
                 let heard = frame.sample(level)?;
-                self.hearing = if level {
-                    Hearing::Hunts
-                } else {
-                    Hearing::Waits
-                };
+                self.state = if level { State::Hunts } else { State::Waits };
                 Some(heard)
             }
         }

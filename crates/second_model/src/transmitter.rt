@@ -13,6 +13,14 @@ struct TimedLevel {
     level: bool,
 }
 
+// What a transmitter does. It stands beside the transmitter, since a caller may keep it over the next call.
+#[derive(Clone, Copy, PartialEq, Eq, Debug)]
+pub enum Doing {
+    Rests,
+    Sends,
+    Breaks,
+}
+
 // A frame that is sent, with the tick at which it ends, and the tick and the level that it has reached.
 #[derive(Drop)]
 pub struct Frame {
@@ -85,6 +93,15 @@ impl Transmitter {
             Transmitter::Rests => true,
             Transmitter::Sends(frame) => frame.level,
             Transmitter::Breaks { .. } => false,
+        }
+    }
+
+    // What it does.
+    pub(crate) fn doing(&self) -> Doing {
+        match self {
+            Transmitter::Rests => Doing::Rests,
+            Transmitter::Sends(_) => Doing::Sends,
+            Transmitter::Breaks { .. } => Doing::Breaks,
         }
     }
 

@@ -32,7 +32,7 @@ struct Seen {
     count: Count,
 }
 
-// The counts are lists and no maps: the terms of the chip have no order to be keys, and the table has an order of its own.
+// The counts are lists and no maps, as the table has an order of its own.
 #[derive(Drop)]
 pub(crate) struct Counts {
     changes: [Change; 26],

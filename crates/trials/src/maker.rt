@@ -130,7 +130,7 @@ impl Maker {
         frame.extend(data);
         if to.fr & 4 != 0 {
             let odd = data.bits.count_ones() % 2 == 1;
-            // odd, even, mark, space: by number and no type of a model, as histories are made without what they are played on
+            // odd, even, mark, space: by number, as a type for them would take a second match
             let right = match (to.fr >> 3) & 3 {
                 0 => !odd,
                 1 => odd,

@@ -1,7 +1,7 @@
 // What the second model shows of a channel, to see what changes.
 
 use bitflags::bitflags;
-use second_model::{Hearing, Transmitter, View};
+use second_model::{Doing, Hearing, View};
 
 // Which facts hold of a channel. They are bits and no fields of a struct, since each cycle compares them with those
 // before: with fields a run took a fifth longer. The first seven are the requests and the next seven the flags, both in the
@@ -61,8 +61,8 @@ impl Step {
     }
 }
 
-impl From<View<'_>> for State {
-    fn from(view: View<'_>) -> State {
+impl From<View> for State {
+    fn from(view: View) -> State {
         let requests = u32::from(view.requests.byte());
         let flags = u32::from(view.flags.byte());
         let mut state = State::from_bits_retain(requests | flags << 7);
@@ -71,14 +71,14 @@ impl From<View<'_>> for State {
         state.set(State::BRK, view.errors.broken);
         state.set(State::ASLEEP, view.asleep);
         state.set(State::TDR_FULL, view.tdr_full);
-        match view.transmitter {
-            Transmitter::Rests => state.set(State::TUR, state.contains(State::TDRE)),
-            Transmitter::Sends(_) => state.insert(State::SENDS),
-            Transmitter::Breaks { .. } => state.insert(State::BREAKS),
+        match view.doing {
+            Doing::Rests => state.set(State::TUR, state.contains(State::TDRE)),
+            Doing::Sends => state.insert(State::SENDS),
+            Doing::Breaks => state.insert(State::BREAKS),
         }
         match view.hearing {
             Hearing::Hunts => {}
-            Hearing::Gathers(_) => state.insert(State::GATHERS),
+            Hearing::Gathers => state.insert(State::GATHERS),
             Hearing::Waits => state.insert(State::WAITS),
         }
         state.set(State::OTHER_FORMAT, view.other_format);
