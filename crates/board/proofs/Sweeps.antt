@@ -50,7 +50,7 @@ pub sweeping_none : (s₀ : State) (rs₀ : List Record) → Sweeping 0 s₀ rs�
 unfolding cycles written
 sweeping_none s₀ rs₀ = record { moved = refl; filled = refl; count = refl; few = omega arith }
 
-pub sweeping_more : (i : ℕ) (s₀ : State) (rs₀ : List Record) (s : State) (rs : List Record) (n : ℕ) →
+sweeping_more : (i : ℕ) (s₀ : State) (rs₀ : List Record) (s : State) (rs : List Record) (n : ℕ) →
     Sweeping i s₀ rs₀ s rs n → 2 * i + 2 ≤ length rs₀ → (s' : State) (rs' : List Record) (n' : ℕ) →
     s' ≡ after_cycle s → n' ≡ next_place n (suc i) (cycle_answer s) → rs' ≡ both_placed rs n (suc i) (cycle_answer s) → Sweeping (suc i) s₀ rs₀ s' rs' n'
 unfolding cycles written
@@ -76,15 +76,16 @@ sweeping_more i s₀ rs₀ s rs n h room s' rs' n' es en er =
       few = omega (arith, h.few);
     }
 
-pub sweeping_all : (k : ℕ) (s₀ : State) (rs₀ : List Record) (s : State) (rs : List Record) (n : ℕ) → Sweeping k s₀ rs₀ s rs n → Wrote k s₀ rs₀ n rs
-sweeping_all k s₀ rs₀ s rs n h = record { order = one_first; count = h.count; list = h.filled }
-
--- the same by the number of the cycle
-pub sweeping_next : (c : ℕ) (s₀ : State) (rs₀ : List Record) (s : State) (rs : List Record) (n : ℕ) →
-    1 ≤ c → Sweeping (c - 1) s₀ rs₀ s rs n → 2 * c ≤ length rs₀ → (s' : State) (rs' : List Record) (n' : ℕ) →
-    s' ≡ after_cycle s → n' ≡ next_place n c (cycle_answer s) → rs' ≡ both_placed rs n c (cycle_answer s) → Sweeping c s₀ rs₀ s' rs' n'
-sweeping_next zero s₀ rs₀ s rs n from h room s' rs' n' = absurd (omega (arith, from))
-sweeping_next (suc i) s₀ rs₀ s rs n from h room s' rs' n' =
+-- the same by the number c of the cycle, which the caller names m
+pub sweeping_next : {s₀ s s' : State} {rs₀ rs rs' : List Record} {n n' : ℕ} (c m : ℕ) → m ≡ c →
+    1 ≤ c → Sweeping (c - 1) s₀ rs₀ s rs n → 2 * c ≤ length rs₀ →
+    s' ≡ after_cycle s → n' ≡ next_place n c (cycle_answer s) → rs' ≡ both_placed rs n c (cycle_answer s) → Sweeping m s₀ rs₀ s' rs' n'
+sweeping_next {s₀} {s} {s'} {rs₀} {rs} {rs'} {n} {n'} zero m e from h room es en er = absurd (omega (arith, from))
+sweeping_next {s₀} {s} {s'} {rs₀} {rs} {rs'} {n} {n'} (suc i) m e from h room es en er =
     let less : suc i - 1 ≡ i = omega arith in
     let before : Sweeping i s₀ rs₀ s rs n = subst (λ m. Sweeping m s₀ rs₀ s rs n) less h in
-    sweeping_more i s₀ rs₀ s rs n before (omega (arith, room)) s' rs' n'
+    subst (λ m. Sweeping m s₀ rs₀ s' rs' n') (sym e) (sweeping_more i s₀ rs₀ s rs n before (omega (arith, room)) s' rs' n' es en er)
+
+-- all k cycles
+pub sweeping_all : {s₀ s : State} {rs₀ rs : List Record} {n : ℕ} (i k : ℕ) → k ≡ i → Sweeping i s₀ rs₀ s rs n → Wrote k s₀ rs₀ n rs
+sweeping_all {s₀} {s} {rs₀} {rs} {n} i k e h = subst (λ m. Wrote m s₀ rs₀ n rs) (sym e) (record { order = one_first; count = h.count; list = h.filled })
