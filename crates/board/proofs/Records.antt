@@ -36,7 +36,4 @@ words_both g Two i a false = simp (words_in-++, words_entry) refl
 -- one cycle more
 pub words_more : (g : ReportKind → ℕ → List ℕ) (to : ChannelId) (ws : List ℕ) (rs : List Record) (o : Order) (i : ℕ) (a : ChipAnswer) →
     (ws ++ words_in g to rs) ++ words_of g (answer_of to a).report ≡ ws ++ words_in g to (rs ++ entries o i a)
-words_more g to ws rs o i a =
-    append_assoc ws (words_in g to rs) (words_of g (answer_of to a).report)
-    ∙ ap (λ z. ws ++ (words_in g to rs ++ z)) (sym (words_both g to i a (o i)))
-    ∙ ap (λ z. ws ++ z) (sym (words_in-++ g to rs (entries o i a)))
+words_more g to ws rs o i a = simp (append_assoc, words_in-++, words_both) refl
