@@ -108,16 +108,6 @@ module _ (x : Format) (d D : ℕ) where
       (row' + ((D - 0) + T) ≤ 2 * T) × (best' < 2 * T)
   wait_timing T row best row' best' a n o = omega arith
 
-  some_ticks : 0 < frame_ticks x
-  some_ticks = let b = (frame_bounds x).0 in omega arith
-
-  frame_time : 0 < D → (0 < frame_cycles x D) × (D ≤ frame_cycles x D)
-  frame_time h =
-      let t = some_ticks in
-      let e : 1 * D ≤ frame_ticks x * D = mul-le-mul_right D (omega arith) in
-      let s = one-mul D in
-      omega arith
-
   begin_going : 0 < D → (tdr : Option ℕ) (cts : Bool) (q : List Bool) (log : List Received) (t : Option Received × Receiver) (U : Bool → List ℕ) (j row best row' best' : ℕ) →
       length q ≡ d → U false ≡ U (is_full tdr) ++ waiting tdr → Next cts row best row' best' →
       Flow x D (q ++ []) (after 0 log t) (map (sent_as x) (U (is_full tdr))) j → Before (frame_cycles x D) (is_full tdr) row best row' best' j →
@@ -130,18 +120,18 @@ module _ (x : Format) (d D : ℕ) where
       let P : List Bool → Type 0 = λ ls. Flow x D ls r L j in
       let whole = flow_frame x D v q r L j h (subst P (append-nil q) f) in
       let Q : List Bool → Type 0 = λ ls. Flow x D (q ++ ls) r (L ++ (sent_as x v ∷ [])) 0 in
-      let placed : Flow x D (q ++ pending D M 0 (Sending x f0 0)) r (L ++ (sent_as x v ∷ [])) 0 = subst Q (sym (pend_start D M x f0 some_ticks)) whole in
+      let placed : Flow x D (q ++ pending D M 0 (Sending x f0 0)) r (L ++ (sent_as x v ∷ [])) 0 = subst Q (sym (pend_start D M x f0 (some_ticks x))) whole in
       let S : List Received → Type 0 = λ z. Flow x D (q ++ pending D M 0 (Sending x f0 0)) r z 0 in
       let logged : L ++ (sent_as x v ∷ []) ≡ map (sent_as x) (U false) = sym (ap (map (sent_as x)) u ∙ map_push (sent_as x) (U true) v) in
       record {
         phase_low = h;
-        fits = (refl, some_ticks);
+        fits = (refl, (some_ticks x));
         line_size = g;
         motion = record {
           idle = 0;
           flow = subst S logged placed;
           timing = start_timing (frame_cycles x D) (length (pending D M 0 (Sending x f0 0))) row best row' best'
-              (pend_most D M 0 x f0 0 h some_ticks) (frame_time h).0 n o;
+              (pend_most D M 0 x f0 0 h (some_ticks x)) (frame_time x D h).0 n o;
         };
         queue = sym (append-nil (U false));
       }
@@ -150,7 +140,7 @@ module _ (x : Format) (d D : ℕ) where
         phase_low = h;
         fits = tt;
         line_size = g;
-        motion = record { idle = j; flow = f; timing = wait_timing (frame_cycles x D) row best row' best' (frame_time h).1 n o };
+        motion = record { idle = j; flow = f; timing = wait_timing (frame_cycles x D) row best row' best' (frame_time x D h).1 n o };
         queue = u;
       }
   begin_going h None cts q log t U j row best row' best' g u n f o =

@@ -51,22 +51,21 @@ next : (cts : Bool) (row longest : ℕ) → Next cts row longest (row_after cts 
 next true row longest = (refl, refl)
 next false row longest = (refl, refl)
 
+words_sent : (x : Format) (vs : List ℕ) → words (map (sent_as x) vs) ≡ map (cut x) vs
+words_sent x vs = map-map (λ r. r.word) (sent_as x) vs
+
 -- a log that begins the frames of the words
 begins : (x : Format) (log more : List Received) (vs : List ℕ) → log ++ more ≡ map (sent_as x) vs → (rest : List ℕ) × (words log ++ rest ≡ map (cut x) vs)
-begins x [] more vs e = (map (cut x) vs, refl)
-begins x (r ∷ log) more [] e = absurd (let z : ◌≡◌ {A = ℕ} 0 1 = cc in omega arith)
-begins x (r ∷ log) more (v ∷ vs) e =
-    let first : r ≡ sent_as x v = cc in
-    let others : log ++ more ≡ map (sent_as x) vs = cc in
-    let b = begins x log more vs others in
-    (b.0, ap (λ z. z ∷ (words log ++ b.0)) (ap (λ z. z.word) first) ∙ ap (λ z. cut x v ∷ z) b.1)
+begins x log more vs e = (words more, sym (map-append (λ r. r.word) log more) ∙ ap words e ∙ words_sent x vs)
 
 -- the last of such a log is the frame of a word
 last_sent : (x : Format) (log : List Received) (r : Received) (more : List Received) (vs : List ℕ) → (log ++ (r ∷ [])) ++ more ≡ map (sent_as x) vs → (v : ℕ) × (r ≡ sent_as x v)
-last_sent x [] r more [] e = absurd (let z : ◌≡◌ {A = ℕ} 0 1 = cc in omega arith)
-last_sent x [] r more (v ∷ vs) e = let first : r ≡ sent_as x v = cc in (v, first)
-last_sent x (q ∷ log) r more [] e = absurd (let z : ◌≡◌ {A = ℕ} 0 1 = cc in omega arith)
-last_sent x (q ∷ log) r more (v ∷ vs) e = let others : (log ++ (r ∷ [])) ++ more ≡ map (sent_as x) vs = cc in last_sent x log r more vs others
+last_sent x log r more vs e =
+    let n : ℕ = length log in
+    let d : Received = sent_as x 0 in (
+      get_or vs n 0,
+      sym (get_or-append_seam log r more d) ∙ ap (λ z. get_or z n d) (sym (append_assoc log (r ∷ []) more) ∙ e) ∙ get_or-map (sent_as x) vs n 0,
+    )
 
 -- the end of a clean frame: it is kept, or lost where RDRF is set
 pub record Ended (log : List Received) (frame : Option Received) (r : Receiving) (p : Past) (e : Option Report × Receiving) : Type 0 where
@@ -75,19 +74,22 @@ pub record Ended (log : List Received) (frame : Option Received) (r : Receiving)
   pub clean : Clean e.1
   pub reads : p.fresh ++ only e.1.rdrf e.1.rdr ≡ p.kept ++ words_of kept_of e.0
 
+word_arrives : (log : List Received) (f : Received) (ws : List ℕ) → ws ≡ words log → ws ++ (f.word ∷ []) ≡ words (log ++ (f ∷ []))
+word_arrives log f ws e = ap (λ z. z ++ (f.word ∷ [])) e ∙ sym (map_push (λ z. z.word) log f)
+
 ended_clean : (x : Format) (v : ℕ) (log : List Received) (r : Receiving) (p : Past) → Clean r → p.arrived ≡ words log → p.fresh ++ only r.rdrf r.rdr ≡ p.kept →
     (asleep rdrf : Bool) → r.asleep ≡ asleep → r.rdrf ≡ rdrf → let f : Received = sent_as x v in
     Ended log (Some f) r p (cond asleep (passed_by f.word 0 r) (cond rdrf (overrun f.word r) (kept_by f false r)))
 ended_clean x v log r p c a h true rdrf e g = absurd (true≢false (sym e ∙ c.awake))
 ended_clean x v log r p c a h false true e g = record {
   receiver = refl;
-  arrivals = ap (λ z. z ++ (cut x v ∷ [])) a ∙ sym (map-append (λ z. z.word) log (sent_as x v ∷ []));
+  arrivals = word_arrives log (sent_as x v) p.arrived a;
   clean = record { par = c.par; fe = c.fe; brk = c.brk; awake = c.awake };
   reads = h ∙ sym (append-nil p.kept);
 }
 ended_clean x v log r p c a h false false e g = record {
   receiver = refl;
-  arrivals = ap (λ z. z ++ (cut x v ∷ [])) a ∙ sym (map-append (λ z. z.word) log (sent_as x v ∷ []));
+  arrivals = word_arrives log (sent_as x v) p.arrived a;
   clean = record { par = refl; fe = refl; brk = c.brk; awake = c.awake };
   reads = ap (λ z. z ++ (cut x v ∷ [])) (sym (append-nil p.fresh) ∙ ap (λ b. p.fresh ++ only b r.rdr) (sym g) ∙ h);
 }
@@ -166,15 +168,9 @@ module _ (x : Format) (d D : ℕ) where
 -- a word was just written: two frames suffice
 fresh_timing : (x : Format) (d D φ : ℕ) (tx : Transmitter) (i : ℕ) → φ < D → Fits x tx →
     Timing (frame_cycles x D) d D φ (length (pending D (frame_ticks x) φ tx)) tx true 0 0 i
-fresh_timing x d D φ Resting i h c =
-    let b = (frame_bounds x).0 in
-    let e : 1 * D ≤ frame_ticks x * D = mul-le-mul_right D (omega arith) in
-    let s = one-mul D in
-    omega arith
+fresh_timing x d D φ Resting i h c = let t = frame_time x D (omega arith) in omega arith
 fresh_timing x d D φ (Sending y f c) i h b =
-    let n = (frame_bounds x).0 in
-    let e : 1 * D ≤ frame_ticks x * D = mul-le-mul_right D (omega arith) in
-    let s = one-mul D in
+    let t = frame_time x D (omega arith) in
     let m = pend_most D (frame_ticks x) φ y f c h b.1 in
     omega arith
 fresh_timing x d D φ (Breaking y c) i h b = absurd b
@@ -251,10 +247,6 @@ start_inv x D k h phase sender quiet hunts empty clean =
       clean = clean;
       reads = ap (λ b. only b k.receiving.rdr) empty;
     }
-
-words_sent : (x : Format) (vs : List ℕ) → words (map (sent_as x) vs) ≡ map (cut x) vs
-words_sent x [] = refl
-words_sent x (v ∷ vs) = ap (λ z. cut x v ∷ z) (words_sent x vs)
 
 two_frames : (z D : ℕ) → 32 * z * D ≡ 2 * (16 * z * D)
 two_frames z D = let a = mul_assoc 32 z D in let b = mul_assoc 16 z D in omega arith

@@ -1,11 +1,12 @@
 -- The invariant of a sender, a line and a receiver: what is under way, and how long it takes.
-use Rattle.std.proofs.Common.{◌≡◌, ℕ, suc, ◌+◌, ◌-◌, ◌*◌, ◌<◌, ◌≤◌, max, Bool, true, false, not, ◌⊎◌, List, [], ◌∷◌, ◌++◌, map, length, Some, None, Option}
+use Rattle.std.proofs.Common.{◌≡◌, ℕ, suc, ◌+◌, ◌-◌, ◌*◌, ◌<◌, ◌≤◌, max, Bool, true, false, not, ◌⊎◌, List, [], ◌∷◌, ◌++◌, map, length, Some, None, Option, mul-le-mul_right, one-mul, arith}
 use Rattle.serial.specs.declared.format.Format.{Format}
 use Rattle.serial.specs.declared.receiver.Received.{Received}
 use Rattle.serial.specs.declared.transmitter.Transmitter.{Transmitter}
 use Rattle.serial.specs.declared.transmitter.Transmitter.TheVariants.{Resting, Sending, Breaking}
 use Rattle.serial.specs.Format.{cut}
 use Rattle.serial.specs.Transmitter.{frame_ticks}
+use Rattle.serial.proofs.Formats.{frame_bounds}
 use Rattle.channel.specs.declared.sender.Sender.{Sender}
 use Rattle.channel.specs.Sender.{is_empty}
 use Rattle.link.proofs.Runs.{R}
@@ -16,6 +17,16 @@ use Rattle.link.proofs.Pending.{pending}
 -- the cycles of a frame
 abbrev pub frame_cycles : Format → ℕ → ℕ
 frame_cycles x D = frame_ticks x * D
+
+pub some_ticks : (x : Format) → 0 < frame_ticks x
+some_ticks x = let b = (frame_bounds x).0 in omega arith
+
+pub frame_time : (x : Format) (D : ℕ) → 0 < D → (0 < frame_cycles x D) × (D ≤ frame_cycles x D)
+frame_time x D h =
+    let t = some_ticks x in
+    let e : 1 * D ≤ frame_ticks x * D = mul-le-mul_right D (omega arith) in
+    let s = one-mul D in
+    omega arith
 
 -- a transmitter that rests or sends in the format x
 abbrev pub Fits : Format → Transmitter → Type 0
