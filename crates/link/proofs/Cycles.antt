@@ -1,5 +1,5 @@
 -- A cycle keeps the invariant of the motion.
-use Rattle.std.proofs.Common.{◌≡◌, ℕ, suc, ◌+◌, ◌-◌, ◌*◌, ◌<◌, ◌≤◌, max, Bool, true, false, cond, ltb, ◌⊎◌, List, [], ◌∷◌, ◌++◌, map, length, Some, None, Option, sym, refl, ap, ◌∙◌, subst, inl, inr, append_assoc, append-nil, mul-le-mul_right, one-mul, arith, length-append}
+use Rattle.std.proofs.Common.{◌≡◌, ℕ, suc, ◌+◌, ◌-◌, ◌*◌, ◌<◌, ◌≤◌, max, Bool, true, false, cond, ltb, ◌⊎◌, List, [], ◌∷◌, ◌++◌, map, length, Some, None, Option, sym, refl, ap, ◌∙◌, subst, inl, inr, append_assoc, append-nil, arith, length-append}
 use Rattle.std.proofs.lemmas.List.{map_push}
 use Rattle.std.proofs.lemmas.Bool.{ltb-true, ltb-false}
 use Rattle.serial.specs.declared.format.Format.{Format}
@@ -10,14 +10,13 @@ use Rattle.serial.specs.declared.transmitter.Transmitter.TheVariants.{Resting, S
 use Rattle.serial.specs.Frame.{frame}
 use Rattle.serial.specs.Receiver.{heard}
 use Rattle.serial.specs.Transmitter.{level, frame_ticks, taken}
-use Rattle.serial.proofs.Formats.{frame_bounds}
 use Rattle.channel.specs.Sender.{handed, sent}
 use Rattle.line.specs.Line.{leaves, held, length_held}
 use Rattle.link.proofs.Runs.{R, after, turn_r}
 use Rattle.link.proofs.WholeFrame.{level_at}
 use Rattle.link.proofs.Flow.{Flow, flow_idle, flow_step, flow_frame}
 use Rattle.link.proofs.Pending.{pending, pend_mid, pend_next, pend_last, pend_some, pend_most, pend_start}
-use Rattle.link.proofs.Motion.{frame_cycles, Fits, is_full, waiting, sent_as, extra, Timing, Motion, Going, Next}
+use Rattle.link.proofs.Motion.{frame_cycles, some_ticks, frame_time, Fits, is_full, waiting, sent_as, extra, Timing, Motion, Going, Next}
 
 -- the line gives its oldest level and takes the sender's
 shift_eq : (line : List Bool) (l : Bool) (rest : List Bool) → line ++ (l ∷ rest) ≡ leaves line l ∷ (held line l ++ rest)

@@ -1,7 +1,9 @@
 -- One direction of a board keeps its invariant, and what the invariant says of the words.
-use Rattle.std.proofs.Common.{◌≡◌, ℕ, ◌+◌, ◌*◌, ◌<◌, ◌≤◌, Bool, true, false, cond, ltb, List, [], ◌∷◌, ◌++◌, map, length, replicate, Some, None, Option, sym, refl, ap, ◌∙◌, subst, inl, inr, append_assoc, append-nil, mul-le-mul_right, mul_assoc, one-mul, arith, length-append}
-use lib.ListN.{length-replicate}
-use Rattle.std.proofs.lemmas.List.{map-append, nil_from_length}
+use Rattle.std.proofs.Common.{◌≡◌, ℕ, ◌+◌, ◌*◌, ◌<◌, ◌≤◌, Bool, true, false, cond, ltb, List, [], ◌∷◌, ◌++◌, map, length, get_or, replicate, Some, None, Option, sym, refl, ap, ◌∙◌, subst, inl, inr, append_assoc, append-nil, mul_assoc, arith, length-append}
+use lib.ListN.{length-replicate, get_or-map}
+use lib.Seq.{get_or-append_seam}
+use mathlib.Core.List.{map-map}
+use Rattle.std.proofs.lemmas.List.{map-append, map_push, nil_from_length}
 use Rattle.std.proofs.lemmas.Bool.{ltb-true, true≢false}
 use Rattle.terms.specs.declared.report.Report.{Report}
 use Rattle.serial.specs.declared.format.Format.{Format}
@@ -13,7 +15,6 @@ use Rattle.serial.specs.declared.transmitter.Transmitter.TheVariants.{Resting, S
 use Rattle.serial.specs.Format.{frame_bits, cut}
 use Rattle.serial.specs.Receiver.{heard}
 use Rattle.serial.specs.Transmitter.{frame_ticks}
-use Rattle.serial.proofs.Formats.{frame_bounds}
 use Rattle.channel.specs.declared.sender.Sender.{Sender}
 use Rattle.channel.specs.declared.receiving.Receiving.{Receiving}
 use Rattle.channel.specs.Sender.{filled, sent}
@@ -24,7 +25,7 @@ use Rattle.link.specs.Past.{Past, nothing_yet, arrived_of, kept_of, words_of, on
 use Rattle.link.proofs.Runs.{R, outs, run, run_log}
 use Rattle.link.proofs.Flow.{Flow}
 use Rattle.link.proofs.Pending.{pending, pend_most}
-use Rattle.link.proofs.Motion.{frame_cycles, Fits, is_full, waiting, sent_as, Timing, Going, Next}
+use Rattle.link.proofs.Motion.{frame_cycles, frame_time, Fits, is_full, waiting, sent_as, Timing, Going, Next}
 use Rattle.link.proofs.Cycles.{mid, tick}
 
 -- no flag of a bad frame, and awake
