@@ -22,7 +22,7 @@ use Rattle.channel.specs.Receiving.{emptied, with_receiver, passed_by, overrun, 
 use Rattle.line.specs.Line.{held, length_held}
 use Rattle.link.specs.Link.{Link, given, taken, idled, ticked_on, link_cycle}
 use Rattle.link.specs.Past.{Past, nothing_yet, arrived_of, kept_of, words_of, only, row_after, longest_after, past_cycle, past_write, past_read}
-use Rattle.link.proofs.Runs.{R, outs, run, run_log}
+use Rattle.link.proofs.Runs.{R, outs, at, run, run_log}
 use Rattle.link.proofs.Flow.{Flow}
 use Rattle.link.proofs.Pending.{pending, pend_most}
 use Rattle.link.proofs.Motion.{frame_cycles, frame_time, Fits, is_full, waiting, sent_as, Timing, Going, Next}
@@ -39,7 +39,7 @@ abbrev pub words : List Received → List ℕ
 words rs = map (λ r. r.word) rs
 
 abbrev seen_by : Link → List Received → R
-seen_by k log = record { phase = k.phase; rx = k.receiving.receiver; log = log }
+seen_by k log = at k.phase log k.receiving.receiver
 
 pub record LinkInv (x : Format) (d D : ℕ) (k : Link) (p : Past) : Type 0 where
   pub log : List Received
@@ -144,11 +144,11 @@ module _ (x : Format) (d D : ℕ) where
       g.phase_low g.fits g.line_size g.queue e (next k.cts p.row p.longest) g.motion in
       let sender : Sender = sent x false k.cts s in
       let f = went.motion.flow in
-      let rest = run_log x D f.body (record { phase = 0; rx = t.1; log = i.log ++ outs t.0 }) in
+      let rest = run_log x D f.body (at 0 (i.log ++ outs t.0) t.1) in
       let old = i.clean in
       let same : Clean r = record { par = old.par; fe = old.fe; brk = old.brk; awake = old.awake } in
       let h = ended_by x i.log rest.0 (p.unreplaced (is_full sender.tdr)) t.0 r p same i.arrivals i.reads (rest.1 ∙ f.log) in
-      let P : Receiver → Type 0 = λ v. Going x d D sender (held k.line (given k)) (record { phase = 0; rx = v; log = i.log ++ outs t.0 }) p.unreplaced
+      let P : Receiver → Type 0 = λ v. Going x d D sender (held k.line (given k)) (at 0 (i.log ++ outs t.0) v) p.unreplaced
       (row_after k.cts p.row) (longest_after k.cts p.row p.longest) in
       record {
         log = i.log ++ outs t.0;
@@ -228,7 +228,7 @@ pub start_inv : (x : Format) (D : ℕ) (k : Link) → 0 < D → k.phase ≡ 0 �
 start_inv x D k h phase sender quiet hunts empty clean =
     let d : ℕ = length k.line in
     let G : ℕ → Sender → Receiver → Type 0 = λ φ s v.
-    Going x d D s k.line (record { phase = φ; rx = v; log = [] }) (λ b. []) 0 0 in
+    Going x d D s k.line (at φ [] v) (λ b. []) 0 0 in
     let going : G 0 (record { tdr = None; transmitter = Resting }) Hunting = record {
       phase_low = h;
       fits = tt;

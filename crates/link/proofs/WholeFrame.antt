@@ -3,6 +3,7 @@ use Rattle.std.proofs.Common.{◌≡◌, ℕ, zero, suc, ◌+◌, ◌-◌, ◌*�
 use native.Mathlib.Nat.{add-mul-mod_self_right}
 use lib.Arith.{digits_div}
 use Rattle.std.proofs.lemmas.Bool.{eq-eqb, ne_eqb, eqb-true, eqb-false, lt-ltb, le-ltb, cond-false, cond-true}
+use Rattle.std.proofs.lemmas.List.Sums.{fold-append}
 use Rattle.serial.specs.declared.parity.Parity.{Parity}
 use Rattle.serial.specs.declared.format.Format.{Format}
 use Rattle.serial.specs.declared.receiver.Receiver.{Receiver}
@@ -14,7 +15,7 @@ use Rattle.serial.specs.Receiver.{gathering, with_bit, word_of, parity_in, parit
 use Rattle.serial.proofs.Bits.{low_more, or_above}
 use Rattle.serial.proofs.Formats.{stop_bounds, check_bit_low, cut_low}
 use Rattle.serial.proofs.Frames.{below_stops, low_part, frame_law}
-use Rattle.link.proofs.Runs.{R, after, tick_r, tick_all, tick_all-++}
+use Rattle.link.proofs.Runs.{after, tick_r, tick_all, at}
 
 -- the level of a frame at a count of ticks
 abbrev pub level_at : ℕ → ℕ → Bool
@@ -40,9 +41,6 @@ length_ticks f (suc m) c = ap suc (length_ticks f m (c + 1))
 -- the bits that were sampled up to the count c
 abbrev low_at : ℕ → ℕ → ℕ
 low_at f c = f % 2 ^ ((c + 8) / 16)
-
-abbrev at : ℕ → List Received → Receiver → R
-at φ log rx = record { phase = φ; rx = rx; log = log }
 
 -- a sampled bit joins the low part of the frame
 with_bit_lem : (f k : ℕ) → with_bit (f % 2 ^ k) (bit f k) k ≡ f % 2 ^ suc k
@@ -94,7 +92,7 @@ high_ticks : (x : Format) (f m c φ : ℕ) (log : List Received) → ((j : ℕ) 
     tick_all x (ticks f c m) (at φ log Hunting) ≡ at φ log Hunting
 high_ticks x f zero c φ log h = refl
 high_ticks x f (suc m) c φ log h =
-    ap (λ l. tick_all x (ticks f (c + 1) m) (tick_r x l (at φ log Hunting))) (h c (omega arith) (omega arith))
+    ap (λ l. tick_all x (ticks f (c + 1) m) (tick_r x (at φ log Hunting) l)) (h c (omega arith) (omega arith))
     ∙ ap (λ z. tick_all x (ticks f (c + 1) m) (at φ z Hunting)) (append-nil log)
     ∙ high_ticks x f m (c + 1) φ log (λ j a b. h j (omega arith) (omega arith))
 
@@ -189,10 +187,10 @@ whole_frame x v φ log =
     let zeroed : at φ (log ++ []) (gathering x 0 0) ≡ at φ log (gathering x 0 (low_at f 0)) =
     ap (λ z. at φ z (gathering x 0 0)) (append-nil log) ∙ ap (λ z. at φ log (gathering x 0 z)) (omega arith) in
     ap (λ m. tick_all x (ticks f 0 m) (at φ log Hunting)) parts
-    ∙ ap (λ l. tick_all x (ticks f (0 + 1) (a + suc b)) (tick_r x l (at φ log Hunting))) law.start_low
+    ∙ ap (λ l. tick_all x (ticks f (0 + 1) (a + suc b)) (tick_r x (at φ log Hunting) l)) law.start_low
     ∙ ap (λ r. tick_all x (ticks f (0 + 1) (a + suc b)) r) zeroed
     ∙ ap (λ ls. tick_all x ls (at φ log (gathering x 0 (low_at f 0)))) (ticks-++ f a (suc b) (0 + 1))
-    ∙ tick_all-++ x (ticks f (0 + 1) a) (ticks f ((0 + 1) + a) (suc b)) (at φ log (gathering x 0 (low_at f 0)))
+    ∙ fold-append (tick_r x) (at φ log (gathering x 0 (low_at f 0))) (ticks f (0 + 1) a) (ticks f ((0 + 1) + a) (suc b))
     ∙ ap (λ r. tick_all x (ticks f ((0 + 1) + a) (suc b)) r) (gather_run x f law.start_low a 0 φ log (omega arith))
     ∙ ap (λ c. tick_all x (ticks f c (suc b)) (at φ log (gathering x (0 + a) (low_at f (0 + a))))) one
     ∙ ap (λ c. tick_all x (ticks f (a + 1) (suc b)) (at φ log (gathering x c (low_at f c)))) nought
