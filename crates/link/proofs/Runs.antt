@@ -3,7 +3,7 @@
 use Rattle.std.proofs.Common.{◌≡◌, ℕ, zero, suc, ◌+◌, ◌-◌, ◌<◌, Bool, true, false, ltb, List, [], ◌∷◌, ◌++◌, replicate, Some, None, Option, sym, refl, ap, ◌∙◌, append_assoc, append-nil, arith}
 use lib.ListN.{replicate-append-replicate}
 use Rattle.std.proofs.lemmas.Bool.{lt-ltb, le-ltb, ltb-true}
-use Rattle.std.specs.List.{fold}
+use Rattle.std.specs.List.{flat_map, fold}
 use Rattle.std.proofs.lemmas.List.Sums.{fold-append}
 use Rattle.serial.specs.declared.format.Format.{Format}
 use Rattle.serial.specs.declared.receiver.Receiver.{Receiver}
@@ -43,8 +43,7 @@ abbrev pub run : Format → ℕ → List Bool → R → R
 run x D ls r = fold (cycle_r x D) r ls
 
 abbrev pub stretch : ℕ → List Bool → List Bool
-stretch D [] = []
-stretch D (l ∷ ls) = replicate D l ++ stretch D ls
+stretch D ls = flat_map (replicate D) ls
 
 abbrev pub at : ℕ → List Received → Receiver → R
 at φ log rx = record { phase = φ; rx = rx; log = log }
