@@ -1,11 +1,12 @@
 -- The levels that the sender still has to give for the frame under way, one to a cycle. M is the number of ticks of a frame.
 use Rattle.std.proofs.Common.{◌≡◌, ℕ, suc, ◌+◌, ◌-◌, ◌*◌, ◌<◌, ◌≤◌, Bool, List, [], ◌∷◌, ◌++◌, length, replicate, sym, ap, ◌∙◌, mul-le-mul_right, suc-mul, zero-mul, arith, length-append}
 use lib.ListN.{length-replicate}
+use Rattle.std.proofs.lemmas.List.FromFn.{length-map-range_with_len}
 use Rattle.serial.specs.declared.format.Format.{Format}
 use Rattle.serial.specs.declared.transmitter.Transmitter.{Transmitter}
 use Rattle.serial.specs.declared.transmitter.Transmitter.TheVariants.{Resting, Sending, Breaking}
 use Rattle.link.proofs.Runs.{stretch}
-use Rattle.link.proofs.WholeFrame.{level_at, ticks, length_ticks}
+use Rattle.link.proofs.WholeFrame.{level_at, ticks}
 
 abbrev pub pending : ℕ → ℕ → ℕ → Transmitter → List Bool
 pending D M φ Resting = []
@@ -49,7 +50,7 @@ module _ (D M φ : ℕ) (y : Format) (f c : ℕ) (low : φ < D) where
   length_pending =
       length-append (replicate (D - φ) (level_at f c)) (stretch D (ticks f (c + 1) (M - suc c)))
       ∙ ap (λ k. k + length (stretch D (ticks f (c + 1) (M - suc c)))) (length-replicate (D - φ) (level_at f c))
-      ∙ ap (λ k. (D - φ) + k) (length_stretch D (ticks f (c + 1) (M - suc c)) ∙ ap (λ k. k * D) (length_ticks f (M - suc c) (c + 1)))
+      ∙ ap (λ k. (D - φ) + k) (length_stretch D (ticks f (c + 1) (M - suc c)) ∙ ap (λ k. k * D) (length-map-range_with_len (level_at f) (c + 1) (M - suc c)))
 
   pub pend_some : 1 ≤ length (pending D M φ (Sending y f c))
   pend_some = let e = length_pending in omega arith

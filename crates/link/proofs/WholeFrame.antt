@@ -1,8 +1,9 @@
 -- One whole frame, tick by tick, from a hunting receiver: it ends hunting, with exactly one clean frame of the word.
-use Rattle.std.proofs.Common.{◌≡◌, ℕ, zero, suc, ◌+◌, ◌-◌, ◌*◌, ◌/◌, ◌%◌, ◌^◌, ◌<◌, ◌≤◌, Bool, true, false, cond, not, ◌&&◌, eqb, ltb, List, [], ◌∷◌, ◌++◌, length, Some, None, Option, sym, refl, ap, ◌∙◌, append-nil, mod-lt, mod-eq_of_lt, mul_assoc, add-mul, arith, pow_pos, pow-add}
+use Rattle.std.proofs.Common.{◌≡◌, ℕ, zero, suc, ◌+◌, ◌-◌, ◌*◌, ◌/◌, ◌%◌, ◌^◌, ◌<◌, ◌≤◌, Bool, true, false, cond, not, ◌&&◌, eqb, ltb, List, [], ◌∷◌, ◌++◌, map, Some, None, Option, sym, refl, ap, ◌∙◌, append-nil, mod-lt, mod-eq_of_lt, mul_assoc, add-mul, arith, pow_pos, pow-add}
 use native.Mathlib.Nat.{add-mul-mod_self_right}
 use lib.Arith.{digits_div}
 use Rattle.std.proofs.lemmas.Bool.{eq-eqb, ne_eqb, eqb-true, eqb-false, lt-ltb, le-ltb, cond-false, cond-true}
+use Rattle.std.specs.List.{range_with_len}
 use Rattle.std.proofs.lemmas.List.Sums.{fold-append}
 use Rattle.serial.specs.declared.parity.Parity.{Parity}
 use Rattle.serial.specs.declared.format.Format.{Format}
@@ -23,8 +24,7 @@ level_at f c = bit f (c / 16)
 
 -- the levels of m ticks from the count c on
 abbrev pub ticks : ℕ → ℕ → ℕ → List Bool
-ticks f c zero = []
-ticks f c (suc m) = level_at f c ∷ ticks f (c + 1) m
+ticks f c m = map (level_at f) (range_with_len c m)
 
 ticks-++ : (f a b c : ℕ) → ticks f c (a + b) ≡ ticks f c a ++ ticks f (c + a) b
 ticks-++ f zero b c = ap (λ k. ticks f c k) (omega arith) ∙ ap (λ k. ticks f k b) (omega arith)
@@ -33,10 +33,6 @@ ticks-++ f (suc a) b c =
     ap (ticks f c) e
     ∙ ap (λ z. level_at f c ∷ z) (ticks-++ f a b (c + 1))
     ∙ ap (λ k. level_at f c ∷ (ticks f (c + 1) a ++ ticks f k b)) (omega arith)
-
-pub length_ticks : (f m c : ℕ) → length (ticks f c m) ≡ m
-length_ticks f zero c = refl
-length_ticks f (suc m) c = ap suc (length_ticks f m (c + 1))
 
 -- the bits that were sampled up to the count c
 abbrev low_at : ℕ → ℕ → ℕ
