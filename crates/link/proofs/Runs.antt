@@ -49,17 +49,13 @@ abbrev pub at : ℕ → List Received → Receiver → R
 at φ log rx = record { phase = φ; rx = rx; log = log }
 
 -- what a cycle does, by whether it ticks
-turn_phase : (x : Format) (D : ℕ) (l : Bool) (r : R) → 0 < D → (b : Bool) → ltb (r.phase + 1) D ≡ b → (turn_r x l r b).phase < D
+turn_phase : (x : Format) (D : ℕ) (l : Bool) (r : R) → r.phase < D → (b : Bool) → ltb (r.phase + 1) D ≡ b → (turn_r x l r b).phase < D
 turn_phase x D l r h true e = ltb-true (r.phase + 1) D e
-turn_phase x D l r h false e = h
-
-tick_high : (x : Format) (rx : Receiver) (log : List Received) → rx ≡ Hunting →
-    ((after 0 log (heard x true rx)).rx ≡ Hunting) × ((after 0 log (heard x true rx)).log ≡ log)
-tick_high x rx log h = rw h (refl, append-nil log)
+turn_phase x D l r h false e = omega arith
 
 turn_high : (x : Format) (r : R) → r.rx ≡ Hunting → (b : Bool) → ((turn_r x true r b).rx ≡ Hunting) × ((turn_r x true r b).log ≡ r.log)
 turn_high x r h true = (h, refl)
-turn_high x r h false = tick_high x r.rx r.log h
+turn_high x r h false = rw h (refl, append-nil r.log)
 
 turn_log : (x : Format) (l : Bool) (r : R) (b : Bool) → (more : List Received) × (r.log ++ more ≡ (turn_r x l r b).log)
 turn_log x l r true = ([], append-nil r.log)
@@ -105,12 +101,9 @@ module _ (x : Format) (D : ℕ) where
       ∙ run_stretch ls (tick_r x r l) h
 
   -- the phase stays below the divisor
-  cycle_phase : (l : Bool) (r : R) → r.phase < D → (cycle_r x D r l).phase < D
-  cycle_phase l r h = turn_phase x D l r (omega arith) (ltb (r.phase + 1) D) refl
-
   pub run_phase : (ls : List Bool) (r : R) → r.phase < D → (run x D ls r).phase < D
   run_phase [] r h = h
-  run_phase (l ∷ ls) r h = run_phase ls (cycle_r x D r l) (cycle_phase l r h)
+  run_phase (l ∷ ls) r h = run_phase ls (cycle_r x D r l) (turn_phase x D l r h (ltb (r.phase + 1) D) refl)
 
   -- high levels leave a hunting receiver as it is
   pub cycle_high : (r : R) → r.rx ≡ Hunting → ((cycle_r x D r true).rx ≡ Hunting) × ((cycle_r x D r true).log ≡ r.log)
@@ -124,12 +117,9 @@ module _ (x : Format) (D : ℕ) where
       (more.0, more.1 ∙ one.1)
 
   -- the log only grows
-  cycle_log : (l : Bool) (r : R) → (more : List Received) × (r.log ++ more ≡ (cycle_r x D r l).log)
-  cycle_log l r = turn_log x l r (ltb (r.phase + 1) D)
-
   pub run_log : (ls : List Bool) (r : R) → (more : List Received) × (r.log ++ more ≡ (run x D ls r).log)
   run_log [] r = ([], append-nil r.log)
   run_log (l ∷ ls) r =
-      let one = cycle_log l r in
+      let one = turn_log x l r (ltb (r.phase + 1) D) in
       let more = run_log ls (cycle_r x D r l) in
       (one.0 ++ more.0, sym (append_assoc r.log one.0 more.0) ∙ ap (λ z. z ++ more.0) one.1 ∙ more.1)
