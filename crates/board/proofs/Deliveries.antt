@@ -282,14 +282,7 @@ module _ (cr fr D : ℕ) (dv : divisor (rate_code cr) ≡ Some D) (d : ChannelId
     links = λ ch.
         let p : Past = past_of ch w.past in
         let P : Past → Type 0 = λ q. LinkInv (format_of cr fr) (d ch) D (link_of ch w.board) q in
-        let e : p ≡ past_sweep (cts_of ch w.past) (far ch) 0 [] p = λ j. record {
-          arrived = sym (append-nil p.arrived) j;
-          kept = sym (append-nil p.kept) j;
-          fresh = p.fresh;
-          unreplaced = p.unreplaced;
-          row = p.row;
-          longest = p.longest;
-        } in
+        let e : p ≡ past_sweep (cts_of ch w.past) (far ch) 0 [] p = λ j. record p { arrived = sym (append-nil p.arrived) j; kept = sym (append-nil p.kept) j } in
         subst P e (i.links ch);
   }
   swung o (suc k) w i =
@@ -304,13 +297,9 @@ module _ (cr fr D : ℕ) (dv : divisor (rate_code cr) ≡ Some D) (d : ChannelId
             let ws = written o k w.board in
             let a = cycle_answer t in
             let q : Past = past_cycle l (answer_of (far ch) a).report (past_sweep l (far ch) k ws p) in
-            let e : q ≡ past_sweep l (far ch) (suc k) (ws ++ entries o (suc k) a) p = λ j. record {
+            let e : q ≡ past_sweep l (far ch) (suc k) (ws ++ entries o (suc k) a) p = λ j. record q {
               arrived = words_more arrived_of (far ch) p.arrived ws o (suc k) a j;
               kept = words_more kept_of (far ch) p.kept ws o (suc k) a j;
-              fresh = p.fresh;
-              unreplaced = p.unreplaced;
-              row = q.row;
-              longest = q.longest;
             } in
             let P : Past → Type 0 = λ z. LinkInv (format_of cr fr) (d ch) D (link_of ch (after_cycle t)) z in
             subst P e (cycle_one t h.steady ch l (past_sweep l (far ch) k ws p) (h.level ch) (h.links ch));
