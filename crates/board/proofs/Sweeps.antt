@@ -50,41 +50,32 @@ pub sweeping_none : (s₀ : State) (rs₀ : List Record) → Sweeping 0 s₀ rs�
 unfolding cycles written
 sweeping_none s₀ rs₀ = record { moved = refl; filled = refl; count = refl; few = omega arith }
 
-sweeping_more : (i : ℕ) (s₀ : State) (rs₀ : List Record) (s : State) (rs : List Record) (n : ℕ) →
-    Sweeping i s₀ rs₀ s rs n → 2 * i + 2 ≤ length rs₀ → (s' : State) (rs' : List Record) (n' : ℕ) →
-    s' ≡ after_cycle s → n' ≡ next_place n (suc i) (cycle_answer s) → rs' ≡ both_placed rs n (suc i) (cycle_answer s) → Sweeping (suc i) s₀ rs₀ s' rs' n'
+-- c is the number of the next cycle, and m what the caller calls the cycles then
+pub sweeping_more : {s₀ s s' : State} {rs₀ rs rs' : List Record} {n n' : ℕ} (i c m : ℕ) → c ≡ suc i → m ≡ suc i →
+    Sweeping i s₀ rs₀ s rs n → 2 * i + 2 ≤ length rs₀ →
+    s' ≡ after_cycle s → n' ≡ next_place n c (cycle_answer s) → rs' ≡ both_placed rs n c (cycle_answer s) → Sweeping m s₀ rs₀ s' rs' n'
 unfolding cycles written
-sweeping_more i s₀ rs₀ s rs n h room s' rs' n' es en er =
+sweeping_more {s₀} {s} {s'} {rs₀} {rs} {rs'} {n} {n'} i c m ec em h room es en er =
     let ws : List Record = written one_first i s₀ in
     let a : ChipAnswer = cycle_answer s in
     let r₁ : Option Report = a.one.report in
     let r₂ : Option Report = a.two.report in
-    let e₁ : List Record = entry (suc i) One r₁ in
-    let e₂ : List Record = entry (suc i) Two r₂ in
-    let few₁ : length e₁ ≤ 1 = entry_few (suc i) One r₁ in
-    let few₂ : length e₂ ≤ 1 = entry_few (suc i) Two r₂ in
+    let e₁ : List Record = entry c One r₁ in
+    let e₂ : List Record = entry c Two r₂ in
+    let few₁ : length e₁ ≤ 1 = entry_few c One r₁ in
+    let few₂ : length e₂ ≤ 1 = entry_few c Two r₂ in
     let room₁ : length ws < length rs₀ = omega (arith, h.count, h.few) in
-    let first = put_more ws rs₀ rs (placed rs n e₁) n (n + length e₁) (suc i) One r₁ h.filled h.count room₁ refl refl in
+    let first = put_more ws rs₀ rs (placed rs n e₁) n (n + length e₁) c One r₁ h.filled h.count room₁ refl refl in
     let room₂ : length (ws ++ e₁) < length rs₀ = omega (arith, first.1, h.few) in
-    let second = put_more (ws ++ e₁) rs₀ (placed rs n e₁) rs' (n + length e₁) n' (suc i) Two r₂ first.0 first.1 room₂ en er in
+    let second = put_more (ws ++ e₁) rs₀ (placed rs n e₁) rs' (n + length e₁) n' c Two r₂ first.0 first.1 room₂ en er in
     let all : (ws ++ e₁) ++ e₂ ≡ ws ++ entries one_first (suc i) (cycle_answer (cycles i s₀)) =
-    append_assoc ws e₁ e₂ ∙ ap (λ t. ws ++ entries one_first (suc i) (cycle_answer t)) h.moved in
-    record {
+    append_assoc ws e₁ e₂ ∙ (λ j. ws ++ entries one_first (ec j) (cycle_answer (h.moved j))) in
+    subst (λ m. Sweeping m s₀ rs₀ s' rs' n') (sym em) (record {
       moved = es ∙ ap after_cycle h.moved;
       filled = second.0 ∙ ap (λ vs. overwritten vs rs₀) all;
       count = second.1 ∙ ap length all;
       few = omega (arith, h.few);
-    }
-
--- the same by the number c of the cycle, which the caller names m
-pub sweeping_next : {s₀ s s' : State} {rs₀ rs rs' : List Record} {n n' : ℕ} (c m : ℕ) → m ≡ c →
-    1 ≤ c → Sweeping (c - 1) s₀ rs₀ s rs n → 2 * c ≤ length rs₀ →
-    s' ≡ after_cycle s → n' ≡ next_place n c (cycle_answer s) → rs' ≡ both_placed rs n c (cycle_answer s) → Sweeping m s₀ rs₀ s' rs' n'
-sweeping_next {s₀} {s} {s'} {rs₀} {rs} {rs'} {n} {n'} zero m e from h room es en er = absurd (omega (arith, from))
-sweeping_next {s₀} {s} {s'} {rs₀} {rs} {rs'} {n} {n'} (suc i) m e from h room es en er =
-    let less : suc i - 1 ≡ i = omega arith in
-    let before : Sweeping i s₀ rs₀ s rs n = subst (λ m. Sweeping m s₀ rs₀ s rs n) less h in
-    subst (λ m. Sweeping m s₀ rs₀ s' rs' n') (sym e) (sweeping_more i s₀ rs₀ s rs n before (omega (arith, room)) s' rs' n' es en er)
+    })
 
 -- all k cycles
 pub sweeping_all : {s₀ s : State} {rs₀ rs : List Record} {n : ℕ} (i k : ℕ) → k ≡ i → Sweeping i s₀ rs₀ s rs n → Wrote k s₀ rs₀ n rs
