@@ -31,9 +31,8 @@ use Rattle.board.proofs.Deliveries.{Inv, play_inv}
 -- a quiet line holds only high levels
 quiet_line : (ls : List Bool) → all_high ls ≡ true → ls ≡ replicate (length ls) true
 quiet_line [] h = refl
-quiet_line (l ∷ ls) h =
-    let p = and_parts l (all_high ls) h in
-    ap (λ z. z ∷ ls) p.0 ∙ ap (λ z. true ∷ z) (quiet_line ls p.1)
+quiet_line (true ∷ ls) h = ap (λ z. true ∷ z) (quiet_line ls h)
+quiet_line (false ∷ ls) h = absurd (true≢false (sym h))
 
 -- a channel as set-up leaves it
 pub record SetUp (cr fr : ℕ) (c : Channel) : Type 0 where
@@ -61,10 +60,7 @@ set_up_by_lem cr fr = record {
 }
 
 set_up_channel : (cr fr : ℕ) → bit cr 7 ≡ false → bit fr 7 ≡ true → SetUp cr fr (rdr_read (control_written fr (control_written cr (after_reset powered_on))))
-set_up_channel cr fr hc hf =
-    let P : Bool → Type 0 = λ b. SetUp cr fr (rdr_read (written_by fr b (written_by cr false (after_reset powered_on)))) in
-    let Q : Bool → Type 0 = λ b. SetUp cr fr (rdr_read (written_by fr (bit fr 7) (written_by cr b (after_reset powered_on)))) in
-    subst Q (sym hc) (subst P (sym hf) (set_up_by_lem cr fr))
+set_up_channel cr fr hc hf = rw hc (rw hf (set_up_by_lem cr fr))
 
 module _ (cr fr : ℕ) (good : bad_control cr ≡ false) (hf : bit fr 7 ≡ true) where
   low_code : rate_code cr < 15

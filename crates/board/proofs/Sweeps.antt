@@ -26,11 +26,7 @@ entry_few i ch (Some r) = omega arith
 
 -- one record more at the end of what was written
 push_more : (ws rs : List Record) (e : Record) → length ws < length rs → set (overwritten ws rs) (length ws) e ≡ overwritten (ws ++ (e ∷ [])) rs
-push_more ws rs e lt =
-    ap (λ ds. set (ws ++ ds) (length ws) e) (drop_more rs (length ws) e lt)
-    ∙ set_at ws (get_or rs (length ws) e) (drop (length ws + 1) rs) e (length ws) refl
-    ∙ sym (append_assoc ws (e ∷ []) (drop (length ws + 1) rs))
-    ∙ ap (λ m. (ws ++ e ∷ []) ++ drop m rs) (sym (length_push ws e))
+push_more ws rs e lt = simp (drop_more rs (length ws) e lt, set_at ws (get_or rs (length ws) e) (drop (length ws + 1) rs) e (length ws) refl, append_assoc, length_push) refl
 
 placed_more : (ws rs : List Record) (i : ℕ) (ch : ChannelId) (r : Option Report) → length ws < length rs →
     placed (overwritten ws rs) (length ws) (entry i ch r) ≡ overwritten (ws ++ entry i ch r) rs
