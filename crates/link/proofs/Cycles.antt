@@ -2,6 +2,7 @@
 use Rattle.std.proofs.Common.{◌≡◌, ℕ, suc, ◌+◌, ◌-◌, ◌*◌, ◌<◌, ◌≤◌, max, Bool, true, false, cond, ltb, ◌⊎◌, List, [], ◌∷◌, ◌++◌, map, length, Some, None, Option, sym, refl, ap, ◌∙◌, subst, inl, inr, append_assoc, append-nil, arith, length-append}
 use Rattle.std.proofs.lemmas.List.{map_push}
 use Rattle.std.proofs.lemmas.Bool.{ltb-true, ltb-false}
+use Rattle.std.specs.Option.{option_to_list}
 use Rattle.serial.specs.declared.format.Format.{Format}
 use Rattle.serial.specs.declared.receiver.Receiver.{Receiver}
 use Rattle.serial.specs.declared.receiver.Received.{Received}
@@ -16,7 +17,7 @@ use Rattle.link.proofs.Runs.{R, after, turn_r}
 use Rattle.link.proofs.WholeFrame.{level_at}
 use Rattle.link.proofs.Flow.{Flow, flow_idle, flow_step, flow_frame}
 use Rattle.link.proofs.Pending.{pending, pend_mid, pend_next, pend_last, pend_some, pend_most, pend_start}
-use Rattle.link.proofs.Motion.{frame_cycles, some_ticks, frame_time, Fits, is_full, waiting, sent_as, extra, Timing, Motion, Going, Next}
+use Rattle.link.proofs.Motion.{frame_cycles, some_ticks, frame_time, Fits, is_full, sent_as, extra, Timing, Motion, Going, Next}
 
 -- the line gives its oldest level and takes the sender's
 shift_eq : (line : List Bool) (l : Bool) (rest : List Bool) → line ++ (l ∷ rest) ≡ leaves line l ∷ (held line l ++ rest)
@@ -108,7 +109,7 @@ module _ (x : Format) (d D : ℕ) where
   wait_timing T row best row' best' a n o = omega arith
 
   begin_going : 0 < D → (tdr : Option ℕ) (cts : Bool) (q : List Bool) (log : List Received) (t : Option Received × Receiver) (U : Bool → List ℕ) (j row best row' best' : ℕ) →
-      length q ≡ d → U false ≡ U (is_full tdr) ++ waiting tdr → Next cts row best row' best' →
+      length q ≡ d → U false ≡ U (is_full tdr) ++ option_to_list tdr → Next cts row best row' best' →
       Flow x D (q ++ []) (after 0 log t) (map (sent_as x) (U (is_full tdr))) j → Before (frame_cycles x D) (is_full tdr) row best row' best' j →
       Going x d D (handed (taken x cts tdr) tdr) q (after 0 log t) U row' best'
   begin_going h (Some v) false q log t U j row best row' best' g u n f o =
@@ -164,7 +165,7 @@ module _ (x : Format) (d D : ℕ) where
 
   -- a frame under way, by whether its next count still belongs to it
   sending : (y : Format) (f c : ℕ) (tdr : Option ℕ) (cts : Bool) (line : List Bool) (r : R) (U : Bool → List ℕ) (row best row' best' : ℕ) →
-      r.phase < D → Fits x (Sending y f c) → length line ≡ d → U false ≡ U (is_full tdr) ++ waiting tdr →
+      r.phase < D → Fits x (Sending y f c) → length line ≡ d → U false ≡ U (is_full tdr) ++ option_to_list tdr →
       ltb (r.phase + 1) D ≡ false → Next cts row best row' best' →
       Motion x d D (Sending y f c) (is_full tdr) line r (map (sent_as x) (U (is_full tdr))) row best →
       (z : Bool) → ltb (c + 1) (frame_ticks y) ≡ z →
@@ -202,7 +203,7 @@ module _ (x : Format) (d D : ℕ) where
       (ap length given) (next_row cts row best row' best' n) o.timing)
 
   pub tick : (tx : Transmitter) (tdr : Option ℕ) (cts : Bool) (line : List Bool) (r : R) (U : Bool → List ℕ) (row best row' best' : ℕ) →
-      r.phase < D → Fits x tx → length line ≡ d → U false ≡ U (is_full tdr) ++ waiting tdr →
+      r.phase < D → Fits x tx → length line ≡ d → U false ≡ U (is_full tdr) ++ option_to_list tdr →
       ltb (r.phase + 1) D ≡ false → Next cts row best row' best' →
       Motion x d D tx (is_full tdr) line r (map (sent_as x) (U (is_full tdr))) row best →
       Going x d D (sent x false cts (record { tdr = tdr; transmitter = tx })) (held line (level tx)) (turn_r x (leaves line (level tx)) r false) U row' best'

@@ -5,6 +5,7 @@ use lib.Seq.{get_or-append_seam}
 use mathlib.Core.List.{map-map}
 use Rattle.std.proofs.lemmas.List.{map-append, map_push, nil_from_length}
 use Rattle.std.proofs.lemmas.Bool.{ltb-true, true≢false}
+use Rattle.std.specs.Option.{option_to_list}
 use Rattle.terms.specs.declared.report.Report.{Report}
 use Rattle.serial.specs.declared.format.Format.{Format}
 use Rattle.serial.specs.declared.receiver.Receiver.{Receiver}
@@ -22,10 +23,10 @@ use Rattle.channel.specs.Receiving.{emptied, with_receiver, passed_by, overrun, 
 use Rattle.line.specs.Line.{held, length_held}
 use Rattle.link.specs.Link.{Link, given, taken, idled, ticked_on, link_cycle}
 use Rattle.link.specs.Past.{Past, nothing_yet, arrived_of, kept_of, words_of, only, row_after, longest_after, past_cycle, past_write, past_read}
-use Rattle.link.proofs.Runs.{R, outs, at, run, run_log}
+use Rattle.link.proofs.Runs.{R, at, run, run_log}
 use Rattle.link.proofs.Flow.{Flow}
 use Rattle.link.proofs.Pending.{pending, pend_most}
-use Rattle.link.proofs.Motion.{frame_cycles, frame_time, Fits, is_full, waiting, sent_as, Timing, Going, Next}
+use Rattle.link.proofs.Motion.{frame_cycles, frame_time, Fits, is_full, sent_as, Timing, Going, Next}
 use Rattle.link.proofs.Cycles.{mid, tick}
 
 -- no flag of a bad frame, and awake
@@ -71,7 +72,7 @@ last_sent x log r more vs e =
 -- the end of a clean frame: it is kept, or lost where RDRF is set
 pub record Ended (log : List Received) (frame : Option Received) (r : Receiving) (p : Past) (e : Option Report × Receiving) : Type 0 where
   pub receiver : e.1.receiver ≡ r.receiver
-  pub arrivals : p.arrived ++ words_of arrived_of e.0 ≡ words (log ++ outs frame)
+  pub arrivals : p.arrived ++ words_of arrived_of e.0 ≡ words (log ++ option_to_list frame)
   pub clean : Clean e.1
   pub reads : p.fresh ++ only e.1.rdrf e.1.rdr ≡ p.kept ++ words_of kept_of e.0
 
@@ -98,7 +99,7 @@ ended_clean x v log r p c a h false false e g = record {
 -- what a tick of the receiver gives, where every frame that has ended is the frame of a word
 ended_by : (x : Format) (log more : List Received) (vs : List ℕ) (frame : Option Received) (r : Receiving) (p : Past) →
     Clean r → p.arrived ≡ words log → p.fresh ++ only r.rdrf r.rdr ≡ p.kept →
-    (log ++ outs frame) ++ more ≡ map (sent_as x) vs → Ended log frame r p (perhaps_ending frame 0 false r)
+    (log ++ option_to_list frame) ++ more ≡ map (sent_as x) vs → Ended log frame r p (perhaps_ending frame 0 false r)
 ended_by x log more vs None r p c a h e = record {
   receiver = refl;
   arrivals = append-nil p.arrived ∙ a ∙ ap words (sym (append-nil log));
@@ -144,14 +145,14 @@ module _ (x : Format) (d D : ℕ) where
       g.phase_low g.fits g.line_size g.queue e (next k.cts p.row p.longest) g.motion in
       let sender : Sender = sent x false k.cts s in
       let f = went.motion.flow in
-      let rest = run_log x D f.body (at 0 (i.log ++ outs t.0) t.1) in
+      let rest = run_log x D f.body (at 0 (i.log ++ option_to_list t.0) t.1) in
       let old = i.clean in
       let same : Clean r = record { par = old.par; fe = old.fe; brk = old.brk; awake = old.awake } in
       let h = ended_by x i.log rest.0 (p.unreplaced (is_full sender.tdr)) t.0 r p same i.arrivals i.reads (rest.1 ∙ f.log) in
-      let P : Receiver → Type 0 = λ v. Going x d D sender (held k.line (given k)) (at 0 (i.log ++ outs t.0) v) p.unreplaced
+      let P : Receiver → Type 0 = λ v. Going x d D sender (held k.line (given k)) (at 0 (i.log ++ option_to_list t.0) v) p.unreplaced
       (row_after k.cts p.row) (longest_after k.cts p.row p.longest) in
       record {
-        log = i.log ++ outs t.0;
+        log = i.log ++ option_to_list t.0;
         going = subst P (sym h.receiver) went;
         arrivals = h.arrivals;
         clean = h.clean;
@@ -277,8 +278,8 @@ arrives x d D k p i =
     let r : R = seen_by k i.log in
     let more = run_log x D f.body r in
     let b = begins x i.log more.0 took (more.1 ∙ f.log) in
-    let left : List ℕ = map (cut x) (waiting s.tdr) in
-    let all : map (cut x) (p.unreplaced false) ≡ map (cut x) took ++ left = ap (map (cut x)) g.queue ∙ map-append (cut x) took (waiting s.tdr) in
+    let left : List ℕ = map (cut x) (option_to_list s.tdr) in
+    let all : map (cut x) (p.unreplaced false) ≡ map (cut x) took ++ left = ap (map (cut x)) g.queue ∙ map-append (cut x) took (option_to_list s.tdr) in
     record {
       in_order = (
         b.0 ++ left,

@@ -5,6 +5,7 @@ use lib.ListN.{replicate-append-replicate}
 use Rattle.std.proofs.lemmas.Bool.{lt-ltb, le-ltb, ltb-true}
 use Rattle.std.specs.List.{flat_map, fold}
 use Rattle.std.proofs.lemmas.List.Sums.{fold-append}
+use Rattle.std.specs.Option.{option_to_list}
 use Rattle.serial.specs.declared.format.Format.{Format}
 use Rattle.serial.specs.declared.receiver.Receiver.{Receiver}
 use Rattle.serial.specs.declared.receiver.Receiver.TheVariants.{Hunting}
@@ -17,13 +18,9 @@ pub record R : Type 0 where
   pub rx : Receiver
   pub log : List Received
 
-abbrev pub outs : Option Received → List Received
-outs None = []
-outs (Some r) = r ∷ []
-
 -- a tick, in which the phase stays
 abbrev pub after : ℕ → List Received → Option Received × Receiver → R
-after φ log t = record { phase = φ; rx = t.1; log = log ++ outs t.0 }
+after φ log t = record { phase = φ; rx = t.1; log = log ++ option_to_list t.0 }
 
 abbrev pub tick_r : Format → R → Bool → R
 tick_r x r l = after r.phase r.log (heard x l r.rx)
@@ -59,7 +56,7 @@ turn_high x r h false = rw h (refl, append-nil r.log)
 
 turn_log : (x : Format) (l : Bool) (r : R) (b : Bool) → (more : List Received) × (r.log ++ more ≡ (turn_r x l r b).log)
 turn_log x l r true = ([], append-nil r.log)
-turn_log x l r false = (outs (heard x l r.rx).0, refl)
+turn_log x l r false = (option_to_list (heard x l r.rx).0, refl)
 
 module _ (x : Format) (D : ℕ) where
   -- levels that no tick meets
@@ -89,7 +86,7 @@ module _ (x : Format) (D : ℕ) where
       ap (λ ls. run x D ls r) cut_at ∙ fold-append (cycle_r x D) r (replicate a l) (l ∷ replicate φ l)
       ∙ ap (λ q. run x D (l ∷ replicate φ l) q) (run_between a φ l r.rx r.log (omega arith))
       ∙ ap (λ q. run x D (replicate φ l) q) hit
-      ∙ run_between φ 0 l u.1 (r.log ++ outs u.0) (omega arith)
+      ∙ run_between φ 0 l u.1 (r.log ++ option_to_list u.0) (omega arith)
       ∙ ap (λ k. after k r.log u) z
 
   -- a stretched list is a list of ticks
