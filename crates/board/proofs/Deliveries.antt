@@ -1,5 +1,5 @@
 -- Every call keeps the invariant of the board.
-use Rattle.std.proofs.Common.{◌≡◌, ℕ, zero, suc, ◌+◌, ◌%◌, ◌<◌, Bool, true, false, cond, not, ◌&&◌, eqb, List, [], ◌∷◌, ◌++◌, Some, Option, Ok, Err, Result, sym, refl, ap, ◌∙◌, subst, append-nil, arith}
+use Rattle.std.proofs.Common.{◌≡◌, ℕ, zero, suc, ◌+◌, ◌<◌, Bool, true, false, cond, not, ◌&&◌, eqb, List, [], ◌∷◌, ◌++◌, Some, Option, Ok, Err, Result, sym, refl, ap, ◌∙◌, subst, append-nil, arith}
 use Rattle.std.proofs.lemmas.Bool.{lt-ltb, ne_eqb, cond-true, cond-false, and_right}
 use Rattle.terms.specs.declared.channel_id.ChannelId.{ChannelId}
 use Rattle.terms.specs.declared.channel_id.ChannelId.TheVariants.{One, Two}
@@ -24,7 +24,7 @@ use Rattle.channel.specs.Receiving.{reading, emptied}
 use Rattle.channel.specs.Channel.{isr_read, rdr_read, tdr_written, modem_changed, with_interrupts}
 use Rattle.dacia.specs.declared.chip.Chip.{Chip}
 use Rattle.terms.specs.declared.register.Register.TheVariants.{Data}
-use Rattle.dacia.specs.Access.{select_at, channel_at, register_at, place_at, access_at}
+use Rattle.dacia.specs.Access.{select_at, place_at, access_at}
 use Rattle.dacia.specs.Chip.{channel_of, with_channel, answer_of, after_read_of, after_write_of, read_once, after_read_once, write_once, after_write_once}
 use Rattle.dacia.specs.Separation.{same}
 use Rattle.link.specs.Link.{Link, link_cycle}

@@ -13,7 +13,7 @@ use Rattle.dacia.specs.declared.access.Place.{Place}
 use Rattle.dacia.specs.declared.chip.Chip.{Chip}
 use Rattle.dacia.specs.declared.chip.Inputs.{Inputs}
 use Rattle.dacia.specs.Access.{channel_at, register_at, access_at, ReadAccess, WriteAccess}
-use Rattle.dacia.specs.Chip.{channel_of, with_channel, answer_of, chip_reset, read_of, after_read_of, write_of, after_write_of, after_read_once, after_write_once, chip_cycled}
+use Rattle.dacia.specs.Chip.{channel_of, with_channel, answer_of, chip_reset, read_of, after_read_of, write_of, after_write_of, chip_cycled}
 use Rattle.dacia.specs.Separation.{Call, reset, read, write, modem, cycle, step, note, reports, read_shown, write_shown, answer, shown, same, concerns, own_inputs, own, struck, seen, Separated}
 
 -- a change of the other channel

@@ -1,5 +1,5 @@
 -- The invariant of a sender, a line and a receiver: what is under way, and how long it takes.
-use Rattle.std.proofs.Common.{◌≡◌, ℕ, suc, ◌+◌, ◌-◌, ◌*◌, ◌<◌, ◌≤◌, max, Bool, true, false, not, ◌⊎◌, List, [], ◌∷◌, ◌++◌, map, length, Some, None, Option, mul-le-mul_right, one-mul, arith}
+use Rattle.std.proofs.Common.{◌≡◌, ℕ, suc, ◌+◌, ◌-◌, ◌*◌, ◌<◌, ◌≤◌, max, Bool, true, false, not, ◌⊎◌, List, ◌++◌, map, length, Option, mul-le-mul_right, one-mul, arith}
 use Rattle.std.specs.Option.{option_to_list}
 use Rattle.serial.specs.declared.format.Format.{Format}
 use Rattle.serial.specs.declared.receiver.Received.{Received}

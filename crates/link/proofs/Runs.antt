@@ -1,6 +1,6 @@
 -- The receiver alone, over a list of levels: one level to a cycle, or one level to a tick.
 -- D equal levels act as one tick at any phase, so a list that is stretched D times acts as a list of ticks.
-use Rattle.std.proofs.Common.{◌≡◌, ℕ, zero, suc, ◌+◌, ◌-◌, ◌<◌, Bool, true, false, ltb, List, [], ◌∷◌, ◌++◌, replicate, Some, None, Option, sym, refl, ap, ◌∙◌, append_assoc, append-nil, arith}
+use Rattle.std.proofs.Common.{◌≡◌, ℕ, zero, suc, ◌+◌, ◌-◌, ◌<◌, Bool, true, false, ltb, List, [], ◌∷◌, ◌++◌, replicate, Option, sym, refl, ap, ◌∙◌, append_assoc, append-nil, arith}
 use lib.ListN.{replicate-append-replicate}
 use Rattle.std.proofs.lemmas.Bool.{lt-ltb, le-ltb, ltb-true}
 use Rattle.std.specs.List.{flat_map, fold}
