@@ -112,10 +112,7 @@ module _ (cr fr D : ℕ) (dv : divisor (rate_code cr) ≡ Some D) (d : ChannelId
       (past_read (is_fresh (reading k.receiving).note) k.receiving.rdr (past_of ch w.past))
   rdr_link ch w i =
       let k : Link = link_of ch w.board in
-      let P : Bool → Type 0 = λ b.
-      LinkInv (format_of cr fr) (d ch) D (record k { receiving = emptied k.receiving })
-      (past_read b k.receiving.rdr (past_of ch w.past)) in
-      subst P (sym (fresh_note k.receiving.rdrf)) (read_inv (format_of cr fr) (d ch) D k (past_of ch w.past) (i.links ch))
+      rw (fresh_note k.receiving.rdrf) (read_inv (format_of cr fr) (d ch) D k (past_of ch w.past) (i.links ch))
 
   rdr_seen : ChannelId → Played → Seen
   rdr_seen e w = did_read (select_at e Data) (Ok (reading (channel_of e w.board.chip).receiving))
@@ -145,10 +142,7 @@ module _ (cr fr D : ℕ) (dv : divisor (rate_code cr) ≡ Some D) (d : ChannelId
       (past_write (is_replaced (Some (tdr_note k.sender))) v (past_of ch w.past))
   send_link ch v w i =
       let k : Link = link_of ch w.board in
-      let P : Bool → Type 0 = λ b.
-      LinkInv (format_of cr fr) (d ch) D (record k { sender = filled v k.sender })
-      (past_write b v (past_of ch w.past)) in
-      subst P (sym (replaced_note (is_empty k.sender.tdr))) (write_inv (format_of cr fr) (d ch) D k (past_of ch w.past) v (i.links ch))
+      rw (replaced_note (is_empty k.sender.tdr)) (write_inv (format_of cr fr) (d ch) D k (past_of ch w.past) v (i.links ch))
 
   send_seen : ChannelId → ℕ → Played → Seen
   send_seen e v w = did_send e v (Ok (Some (tdr_note (channel_of e w.board.chip).sender)))

@@ -34,15 +34,13 @@ module _ (x : Format) (d D : ℕ) where
       Flow x D (line ++ (l ∷ rest)) r L i →
       (j : ℕ) × Flow x D (held line l ++ rest) (turn_r x (leaves line l) r b) L j × ((j ≡ i) ⊎ (length (held line l ++ rest) ≤ j))
   advance line l rest r L i b e f =
-      let P : List Bool → Type 0 = λ ls. Flow x D ls r L i in
-      let s = flow_step x D (leaves line l) (held line l ++ rest) r L i (subst P (shift_eq line l rest) f) in
+      let s = flow_step x D (leaves line l) (held line l ++ rest) r L i (rw (sym (shift_eq line l rest)) f) in
       let Q : Bool → Type 0 = λ b. Flow x D (held line l ++ rest) (turn_r x (leaves line l) r b) L s.0 in
       (s.0, subst Q e s.1, s.2)
 
   idle_level : (line : List Bool) (r : R) (L : List Received) (i : ℕ) → Flow x D (line ++ []) r L i → Flow x D (line ++ (true ∷ [])) r L (suc i)
   idle_level line r L i f =
-      let P : List Bool → Type 0 = λ ls. Flow x D ls r L (suc i) in
-      subst P (append_assoc line [] (true ∷ [])) (flow_idle x D (line ++ []) r L i f)
+      rw (sym (append_assoc line [] (true ∷ []))) (flow_idle x D (line ++ []) r L i f)
 
   nothing : (q : List Bool) → length q ≡ d → length (q ++ []) ≡ d
   nothing q h = let e = length-append q [] in omega arith
@@ -85,8 +83,7 @@ module _ (x : Format) (d D : ℕ) where
       let lt = ltb-true (r.phase + 1) D e in
       let rest : List Bool = pending D M (r.phase + 1) (Sending y f c) in
       let given : pending D M r.phase (Sending y f c) ≡ l ∷ rest = pend_mid D M r.phase y f c h lt in
-      let P : List Bool → Type 0 = λ ls. Flow x D (line ++ ls) r L o.idle in
-      let a = advance line l rest r L o.idle true e (subst P given o.flow) in
+      let a = advance line l rest r L o.idle true e (rw (sym given) o.flow) in
       record {
         idle = a.0;
         flow = a.1;
@@ -176,8 +173,7 @@ module _ (x : Format) (d D : ℕ) where
       let lt : c + 1 < M = ltb-true (c + 1) M (ap (λ w. ltb (c + 1) (frame_ticks w)) (sym b.0) ∙ z) in
       let rest : List Bool = pending D M 0 (Sending y f (c + 1)) in
       let given : pending D M r.phase (Sending y f c) ≡ level_at f c ∷ rest = pend_next D M r.phase y f c h (ltb-false (r.phase + 1) D e) lt in
-      let P : List Bool → Type 0 = λ ls. Flow x D (line ++ ls) r L o.idle in
-      let a = advance line (level_at f c) rest r L o.idle false e (subst P given o.flow) in
+      let a = advance line (level_at f c) rest r L o.idle false e (rw (sym given) o.flow) in
       record {
         phase_low = omega arith;
         fits = (b.0, lt);
@@ -195,8 +191,7 @@ module _ (x : Format) (d D : ℕ) where
       let L : List Received = map (sent_as x) (U (is_full tdr)) in
       let last : M ≤ c + 1 = ltb-false (c + 1) M (ap (λ w. ltb (c + 1) (frame_ticks w)) (sym b.0) ∙ z) in
       let given : pending D M r.phase (Sending y f c) ≡ level_at f c ∷ [] = pend_last D M r.phase y f c h (ltb-false (r.phase + 1) D e) last in
-      let P : List Bool → Type 0 = λ ls. Flow x D (line ++ ls) r L o.idle in
-      let a = advance line (level_at f c) [] r L o.idle false e (subst P given o.flow) in
+      let a = advance line (level_at f c) [] r L o.idle false e (rw (sym given) o.flow) in
       begin_going (omega arith) tdr cts (held line (level_at f c)) r.log (heard x (leaves line (level_at f c)) r.rx) U a.0 row best row' best'
       (length_held line (level_at f c) ∙ g) u n a.1
       (before_done (frame_cycles x D) a.0 (length (pending D M r.phase (Sending y f c))) row best row' best' (is_full tdr)
