@@ -97,9 +97,7 @@ module _ (cr fr D : ℕ) (dv : divisor (rate_code cr) ≡ Some D) (d : ChannelId
               line = line_kept ch (changed e f v w).board.chip w.board j;
               receiving = (same (far ch) j).receiving;
             } in
-            let P : Link → Type 0 = λ k. LinkInv (format_of cr fr) (d ch) D k (past_of ch (v ∷ w.past)) in
-            let Q : Past → Type 0 = λ p. LinkInv (format_of cr fr) (d ch) D (link_of ch w.board) p in
-            subst P (sym seen) (subst Q (sym (hp ch (cts_of ch w.past) (past_of ch w.past))) (i.links ch));
+            rw seen (rw (hp ch (cts_of ch w.past) (past_of ch w.past)) (i.links ch));
       }
 
   -- a read of RDR, seen from the channel at the other end of the line
@@ -205,10 +203,7 @@ module _ (cr fr D : ℕ) (dv : divisor (rate_code cr) ≡ Some D) (d : ChannelId
   read_above : (s : ℕ) → 7 < s → (w : Played) → Inv w → Inv (play_one (read s) w)
   unfolding step seen
   read_above s h w i =
-      let e : w.board.chip ≡ after_read_once s w.board.chip = ap (λ r. after_read_of (access_at r) w.board.chip) (sym (above s h)) in
-      let v : Seen = did_read s (read_once s w.board.chip) in
-      let P : Chip → Type 0 = λ c. Inv (record { board = with_chip c w.board; past = v ∷ w.past }) in
-      subst P e (still_read s One (λ c. c) (λ c. refl) (λ q. omega arith) (λ q. omega arith) w i)
+      rw (above s h) (still_inv One (λ c. c) (did_read s (Err NoSuchSelect)) (λ c. refl) (λ ch l. refl) (not_rdr s (Err NoSuchSelect) (λ q. omega arith) (λ q. omega arith)) w i)
 
   read_inv_at : (s : ℕ) (w : Played) → Inv w → Inv (play_one (read s) w)
   unfolding step seen rdr_seen
@@ -230,10 +225,7 @@ module _ (cr fr D : ℕ) (dv : divisor (rate_code cr) ≡ Some D) (d : ChannelId
   write_above_lem : (s b : ℕ) (w : Played) → Inv w → Inv (play_one (write_above s b) w)
   unfolding step seen
   write_above_lem s b w i =
-      let e : w.board.chip ≡ after_write_once (8 + s) b w.board.chip = ap (λ r. after_write_of (access_at r) b w.board.chip) (sym (above (8 + s) (omega arith))) in
-      let v : Seen = did_write_above s b (write_once (8 + s) w.board.chip) in
-      let P : Chip → Type 0 = λ c. Inv (record { board = with_chip c w.board; past = v ∷ w.past }) in
-      subst P e (still_inv One (λ c. c) v (λ c. refl) (λ ch l. refl) (λ ch l p. refl) w i)
+      rw (above (8 + s) (omega arith)) (still_inv One (λ c. c) (did_write_above s b (Err NoSuchSelect)) (λ c. refl) (λ ch l. refl) (λ ch l p. refl) w i)
 
   other_line : (ch e : ChannelId) (l k : Bool) → cond (same ch e && false) k l ≡ l
   other_line ch e l k = ap (λ b. cond b k l) (and_right (same ch e) false refl)
@@ -275,9 +267,7 @@ module _ (cr fr D : ℕ) (dv : divisor (rate_code cr) ≡ Some D) (d : ChannelId
     level = i.level;
     links = λ ch.
         let p : Past = past_of ch w.past in
-        let P : Past → Type 0 = λ q. LinkInv (format_of cr fr) (d ch) D (link_of ch w.board) q in
-        let e : p ≡ past_sweep (cts_of ch w.past) (far ch) 0 [] p = λ j. record p { arrived = sym (append-nil p.arrived) j; kept = sym (append-nil p.kept) j } in
-        subst P e (i.links ch);
+        rw (append-nil p.arrived) (rw (append-nil p.kept) (i.links ch));
   }
   swung o (suc k) w i =
       let h = swung o k w i in
@@ -290,13 +280,8 @@ module _ (cr fr D : ℕ) (dv : divisor (rate_code cr) ≡ Some D) (d : ChannelId
             let p : Past = past_of ch w.past in
             let ws = written o k w.board in
             let a = cycle_answer t in
-            let q : Past = past_cycle l (answer_of (far ch) a).report (past_sweep l (far ch) k ws p) in
-            let e : q ≡ past_sweep l (far ch) (suc k) (ws ++ entries o (suc k) a) p = λ j. record q {
-              arrived = words_more arrived_of (far ch) p.arrived ws o (suc k) a j;
-              kept = words_more kept_of (far ch) p.kept ws o (suc k) a j;
-            } in
-            let P : Past → Type 0 = λ z. LinkInv (format_of cr fr) (d ch) D (link_of ch (after_cycle t)) z in
-            subst P e (cycle_one t h.steady ch l (past_sweep l (far ch) k ws p) (h.level ch) (h.links ch));
+            rw (sym (words_more arrived_of (far ch) p.arrived ws o (suc k) a)) (rw (sym (words_more kept_of (far ch) p.kept ws o (suc k) a))
+            (cycle_one t h.steady ch l (past_sweep l (far ch) k ws p) (h.level ch) (h.links ch)));
       }
 
   sweep_inv : (k room : ℕ) (o : Order) (w : Played) → Inv w → (b : Bool) →

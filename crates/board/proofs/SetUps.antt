@@ -86,8 +86,7 @@ module _ (cr fr : ℕ) (good : bad_control cr ≡ false) (hf : bit fr 7 ≡ true
   start : (t : State) → t.chip ≡ set_up_chip cr fr → all_high t.a ≡ true → all_high t.b ≡ true →
       Inv cr fr (divisor_of cr) divides (λ ch. length (line_of ch t)) (started t)
   start t e qa qb =
-      let P : (ch : ChannelId) → Chip → Type 0 = λ ch c. SetUp cr fr (channel_of ch c) in
-      let at : (ch : ChannelId) → SetUp cr fr (channel_of ch t.chip) = λ ch. subst (P ch) (sym e) (facts ch) in
+      let at : (ch : ChannelId) → SetUp cr fr (channel_of ch t.chip) = λ ch. rw e (facts ch) in
       let quiet : (ch : ChannelId) → all_high (line_of ch t) ≡ true = both (λ ch. all_high (line_of ch t) ≡ true) qa qb in
       record {
         steady = record { control = λ ch. (at ch).control; together = λ ch. (at (far ch)).count ∙ sym (at ch).count };
@@ -160,4 +159,4 @@ delivers cr fr s s' (Ok u) a l h =
     let all : Delivers cr fr t = λ ch ks.
     delivered cr fr (divisor_of cr) (divides cr fr k.control k.format) (λ ch. length (line_of ch t)) (play ks (started t))
     (play_inv cr fr (divisor_of cr) (divides cr fr k.control k.format) (λ ch. length (line_of ch t)) ks (started t) begun) ch in
-    subst (Delivers cr fr) (sym l) all
+    rw l all

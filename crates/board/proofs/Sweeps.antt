@@ -66,7 +66,7 @@ sweeping_more {s₀} {s} {s'} {rs₀} {rs} {rs'} {n} {n'} i c m ec em h room es 
     let second = put_more (ws ++ e₁) rs₀ (placed rs n e₁) rs' (n + length e₁) n' c Two r₂ first.0 first.1 room₂ en er in
     let all : (ws ++ e₁) ++ e₂ ≡ ws ++ entries one_first (suc i) (cycle_answer (cycles i s₀)) =
     append_assoc ws e₁ e₂ ∙ (λ j. ws ++ entries one_first (ec j) (cycle_answer (h.moved j))) in
-    subst (λ m. Sweeping m s₀ rs₀ s' rs' n') (sym em) (record {
+    rw em (record {
       moved = es ∙ ap after_cycle h.moved;
       filled = second.0 ∙ ap (λ vs. overwritten vs rs₀) all;
       count = second.1 ∙ ap length all;
@@ -75,4 +75,4 @@ sweeping_more {s₀} {s} {s'} {rs₀} {rs} {rs'} {n} {n'} i c m ec em h room es 
 
 -- all k cycles
 pub sweeping_all : {s₀ s : State} {rs₀ rs : List Record} {n : ℕ} (i k : ℕ) → k ≡ i → Sweeping i s₀ rs₀ s rs n → Wrote k s₀ rs₀ n rs
-sweeping_all {s₀} {s} {rs₀} {rs} {n} i k e h = subst (λ m. Wrote m s₀ rs₀ n rs) (sym e) (record { order = one_first; count = h.count; list = h.filled })
+sweeping_all {s₀} {s} {rs₀} {rs} {n} i k e h = rw e (record { order = one_first; count = h.count; list = h.filled })

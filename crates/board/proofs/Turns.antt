@@ -56,5 +56,4 @@ pub turned : (cr fr D : ℕ) (c : Channel) (rxd : Bool) → divisor (rate_code c
     Turned (format_of cr fr) c rxd (ltb (c.count + 1) D) (cycled rxd false false c).0 (cycled rxd false false c).1
 turned cr fr D c rxd dv e =
     let o : divisor (rate_code c.control.cr) ≡ Some D = ap (λ k. divisor (rate_code k.cr)) e ∙ dv in
-    let P : Option ℕ → Type 0 = λ z. Turned (format_of cr fr) c rxd (ltb (c.count + 1) D) (cycled_by z rxd c).0 (cycled_by z rxd c).1 in
-    subst P (sym o) (turned_by cr fr c rxd e (ltb (c.count + 1) D))
+    rw o (turned_by cr fr c rxd e (ltb (c.count + 1) D))

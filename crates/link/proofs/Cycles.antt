@@ -35,8 +35,7 @@ module _ (x : Format) (d D : ℕ) where
       (j : ℕ) × Flow x D (held line l ++ rest) (turn_r x (leaves line l) r b) L j × ((j ≡ i) ⊎ (length (held line l ++ rest) ≤ j))
   advance line l rest r L i b e f =
       let s = flow_step x D (leaves line l) (held line l ++ rest) r L i (rw (sym (shift_eq line l rest)) f) in
-      let Q : Bool → Type 0 = λ b. Flow x D (held line l ++ rest) (turn_r x (leaves line l) r b) L s.0 in
-      (s.0, subst Q e s.1, s.2)
+      (s.0, rw (sym e) s.1, s.2)
 
   idle_level : (line : List Bool) (r : R) (L : List Received) (i : ℕ) → Flow x D (line ++ []) r L i → Flow x D (line ++ (true ∷ [])) r L (suc i)
   idle_level line r L i f =
@@ -114,11 +113,8 @@ module _ (x : Format) (d D : ℕ) where
       let M : ℕ = frame_ticks x in
       let r : R = after 0 log t in
       let L : List Received = map (sent_as x) (U true) in
-      let P : List Bool → Type 0 = λ ls. Flow x D ls r L j in
-      let whole = flow_frame x D v q r L j h (subst P (append-nil q) f) in
-      let Q : List Bool → Type 0 = λ ls. Flow x D (q ++ ls) r (L ++ (sent_as x v ∷ [])) 0 in
-      let placed : Flow x D (q ++ pending D M 0 (Sending x f0 0)) r (L ++ (sent_as x v ∷ [])) 0 = subst Q (sym (pend_start D M x f0 (some_ticks x))) whole in
-      let S : List Received → Type 0 = λ z. Flow x D (q ++ pending D M 0 (Sending x f0 0)) r z 0 in
+      let whole = flow_frame x D v q r L j h (rw (sym (append-nil q)) f) in
+      let placed : Flow x D (q ++ pending D M 0 (Sending x f0 0)) r (L ++ (sent_as x v ∷ [])) 0 = rw (pend_start D M x f0 (some_ticks x)) whole in
       let logged : L ++ (sent_as x v ∷ []) ≡ map (sent_as x) (U false) = sym (ap (map (sent_as x)) u ∙ map_push (sent_as x) (U true) v) in
       record {
         phase_low = h;
@@ -126,7 +122,7 @@ module _ (x : Format) (d D : ℕ) where
         line_size = g;
         motion = record {
           idle = 0;
-          flow = subst S logged placed;
+          flow = rw (sym logged) placed;
           timing = start_timing (frame_cycles x D) (length (pending D M 0 (Sending x f0 0))) row best row' best'
               (pend_most D M 0 x f0 0 h (some_ticks x)) (frame_time x D h).0 n o;
         };

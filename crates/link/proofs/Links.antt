@@ -108,8 +108,7 @@ ended_by x log more vs None r p c a h e = record {
 }
 ended_by x log more vs (Some f) r p c a h e =
     let l = last_sent x log f more vs e in
-    let P : Received → Type 0 = λ z. Ended log (Some z) r p (ending z 0 false r) in
-    subst P (sym l.1) (ended_clean x l.0 log r p c a h r.asleep r.rdrf refl refl)
+    rw l.1 (ended_clean x l.0 log r p c a h r.asleep r.rdrf refl refl)
 
 module _ (x : Format) (d D : ℕ) where
   -- a cycle that is no tick
@@ -149,11 +148,9 @@ module _ (x : Format) (d D : ℕ) where
       let old = i.clean in
       let same : Clean r = record { par = old.par; fe = old.fe; brk = old.brk; awake = old.awake } in
       let h = ended_by x i.log rest.0 (p.unreplaced (is_full sender.tdr)) t.0 r p same i.arrivals i.reads (rest.1 ∙ f.log) in
-      let P : Receiver → Type 0 = λ v. Going x d D sender (held k.line (given k)) (at 0 (i.log ++ option_to_list t.0) v) p.unreplaced
-      (row_after k.cts p.row) (longest_after k.cts p.row p.longest) in
       record {
         log = i.log ++ option_to_list t.0;
-        going = subst P (sym h.receiver) went;
+        going = rw h.receiver went;
         arrivals = h.arrivals;
         clean = h.clean;
         reads = h.reads;
@@ -186,7 +183,6 @@ module _ (x : Format) (d D : ℕ) where
       let g = i.going in
       let o = g.motion in
       let u : List ℕ = p.unreplaced (is_full s.tdr) in
-      let P : List ℕ → Type 0 = λ z. Flow x D (k.line ++ pending D (frame_ticks x) k.phase s.transmitter) (seen_by k i.log) (map (sent_as x) z) o.idle in
       record {
         log = i.log;
         going = record {
@@ -195,7 +191,7 @@ module _ (x : Format) (d D : ℕ) where
           line_size = g.line_size;
           motion = record {
             idle = o.idle;
-            flow = subst P (sym (append-nil u)) o.flow;
+            flow = rw (append-nil u) o.flow;
             timing = fresh_timing x d D k.phase s.transmitter o.idle g.phase_low g.fits;
           };
           queue = ap (λ z. z ++ (v ∷ [])) (sym (append-nil u));
@@ -228,9 +224,7 @@ pub start_inv : (x : Format) (D : ℕ) (k : Link) → 0 < D → k.phase ≡ 0 �
     LinkInv x (length k.line) D k nothing_yet
 start_inv x D k h phase sender quiet hunts empty clean =
     let d : ℕ = length k.line in
-    let G : ℕ → Sender → Receiver → Type 0 = λ φ s v.
-    Going x d D s k.line (at φ [] v) (λ b. []) 0 0 in
-    let going : G 0 (record { tdr = None; transmitter = Resting }) Hunting = record {
+    let going : Going x d D (record { tdr = None; transmitter = Resting }) k.line (at 0 [] Hunting) (λ b. []) 0 0 = record {
       phase_low = h;
       fits = tt;
       line_size = refl;
@@ -243,8 +237,7 @@ start_inv x D k h phase sender quiet hunts empty clean =
     } in
     record {
       log = [];
-      going = subst (λ (φ : ℕ). G φ k.sender k.receiving.receiver) (sym phase)
-          (subst (λ (s : Sender). G 0 s k.receiving.receiver) (sym sender) (subst (λ (v : Receiver). G 0 (record { tdr = None; transmitter = Resting }) v) (sym hunts) going));
+      going = rw phase (rw sender (rw hunts going));
       arrivals = refl;
       clean = clean;
       reads = ap (λ b. only b k.receiving.rdr) empty;
