@@ -1,5 +1,5 @@
 -- Every call keeps the invariant of the board.
-use Rattle.std.proofs.Common.{◌≡◌, ℕ, zero, suc, ◌+◌, ◌<◌, Bool, true, false, cond, not, ◌&&◌, eqb, List, [], ◌∷◌, ◌++◌, Some, Option, Ok, Err, Result, sym, refl, ap, ◌∙◌, subst, append-nil, arith}
+use Rattle.std.proofs.Common.{◌≡◌, ℕ, zero, suc, ◌+◌, ◌<◌, Bool, true, false, cond, not, ◌&&◌, eqb, List, [], ◌∷◌, Some, Option, Ok, Err, Result, sym, refl, ap, ◌∙◌, subst, append-nil, arith}
 use Rattle.std.proofs.lemmas.Bool.{lt-ltb, ne_eqb, cond-true, cond-false, and_right}
 use Rattle.terms.specs.declared.channel_id.ChannelId.{ChannelId}
 use Rattle.terms.specs.declared.channel_id.ChannelId.TheVariants.{One, Two}
@@ -24,14 +24,14 @@ use Rattle.channel.specs.Receiving.{reading, emptied}
 use Rattle.channel.specs.Channel.{isr_read, rdr_read, tdr_written, modem_changed, with_interrupts}
 use Rattle.dacia.specs.declared.chip.Chip.{Chip}
 use Rattle.terms.specs.declared.register.Register.TheVariants.{Data}
-use Rattle.dacia.specs.Access.{select_at, place_at, access_at}
-use Rattle.dacia.specs.Chip.{channel_of, with_channel, answer_of, after_read_of, after_write_of, read_once, after_read_once, write_once, after_write_once}
+use Rattle.dacia.specs.Access.{select_at, place_at}
+use Rattle.dacia.specs.Chip.{channel_of, with_channel, answer_of, read_once, write_once}
 use Rattle.dacia.specs.Separation.{same}
 use Rattle.link.specs.Link.{Link, link_cycle}
 use Rattle.link.specs.Past.{Past, arrived_of, kept_of, past_cycle, past_write, past_read}
 use Rattle.link.proofs.Links.{LinkInv, cycle_inv, write_inv, read_inv, cts_inv}
 use Rattle.board.specs.Board.{State, with_chip, cycle_answer, after_cycle}
-use Rattle.board.specs.Sweep.{Order, cycles, entries, written, sweep_by}
+use Rattle.board.specs.Sweep.{Order, cycles, written, sweep_by}
 use Rattle.board.specs.Calls.{Call, read, enable, send, write_above, modem, cycle, sweep, accepted, step, Seen, did_read, did_enable, did_send, did_write_above, did_modem, did_sweep, did_refuse, seen, Played, play_one, play}
 use Rattle.board.specs.Delivery.{far, line_of, cts_after, cts_of, is_fresh, is_replaced, past_reading, past_after, past_of, past_sweep}
 use Rattle.board.proofs.Records.{words_more}

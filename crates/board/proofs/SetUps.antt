@@ -1,5 +1,5 @@
 -- A board that has just accepted its set-up delivers.
-use Rattle.std.proofs.Common.{◌≡◌, ℕ, ◌%◌, ◌<◌, Bool, true, false, cond, ◌&&◌, eqb, ltb, List, [], ◌∷◌, ◌++◌, length, replicate, is_ok, Some, None, Ok, Err, Result, sym, refl, ap, ◌∙◌, subst, mod-lt, arith}
+use Rattle.std.proofs.Common.{◌≡◌, ℕ, ◌%◌, ◌<◌, Bool, true, false, cond, ◌&&◌, eqb, ltb, List, [], ◌∷◌, ◌++◌, length, replicate, is_ok, Some, None, Ok, Err, Result, sym, refl, ap, ◌∙◌, mod-lt, arith}
 use Rattle.std.proofs.lemmas.Bool.{cond_both, and_parts, or_parts, eqb-false, lt-ltb, cond-true, true≢false}
 use Rattle.std.proofs.lemmas.List.Folds.{list_all_at}
 use Rattle.terms.specs.declared.channel_id.ChannelId.{ChannelId}
@@ -16,7 +16,6 @@ use Rattle.channel.specs.Control.{rate_code, divisors, divisor, format_of}
 use Rattle.channel.specs.Channel.{powered_on, after_reset, cr_written, fr_written, control_written, rdr_read, tdre, fob, any_set, isr_of, csr_of}
 use Rattle.channel.proofs.Bytes.{bit_7, bit_2, bit_0}
 use Rattle.serial.specs.Transmitter.{resting}
-use Rattle.dacia.specs.declared.chip.Chip.{Chip}
 use Rattle.dacia.specs.Chip.{channel_of}
 use Rattle.line.specs.Line.{all_high}
 use Rattle.link.specs.Past.{only}

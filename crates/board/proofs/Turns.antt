@@ -1,5 +1,5 @@
 -- A channel in a cycle of the board, seen through its sender and its receiving side.
-use Rattle.std.proofs.Common.{◌≡◌, ℕ, ◌+◌, Bool, true, false, cond, ltb, Some, None, Option, sym, refl, ap, ◌∙◌, subst}
+use Rattle.std.proofs.Common.{◌≡◌, ℕ, ◌+◌, Bool, true, false, cond, ltb, Some, None, Option, refl, ap, ◌∙◌}
 use Rattle.terms.specs.declared.report.Report.{Report}
 use Rattle.serial.specs.declared.format.Format.{Format}
 use Rattle.serial.specs.Frame.{bit}

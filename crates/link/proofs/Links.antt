@@ -19,12 +19,11 @@ use Rattle.serial.specs.Transmitter.{frame_ticks}
 use Rattle.channel.specs.declared.sender.Sender.{Sender}
 use Rattle.channel.specs.declared.receiving.Receiving.{Receiving}
 use Rattle.channel.specs.Sender.{filled, sent}
-use Rattle.channel.specs.Receiving.{emptied, with_receiver, passed_by, overrun, kept as kept_by, ending, perhaps_ending}
-use Rattle.line.specs.Line.{held, length_held}
+use Rattle.channel.specs.Receiving.{emptied, with_receiver, passed_by, overrun, kept as kept_by, perhaps_ending}
+use Rattle.line.specs.Line.{length_held}
 use Rattle.link.specs.Link.{Link, given, taken, idled, ticked_on, link_cycle}
 use Rattle.link.specs.Past.{Past, nothing_yet, arrived_of, kept_of, words_of, only, row_after, longest_after, past_cycle, past_write, past_read}
 use Rattle.link.proofs.Runs.{R, at, run, run_log}
-use Rattle.link.proofs.Flow.{Flow}
 use Rattle.link.proofs.Pending.{pending, pend_most}
 use Rattle.link.proofs.Motion.{frame_cycles, frame_time, Fits, is_full, sent_as, Timing, Going, Next}
 use Rattle.link.proofs.Cycles.{mid, tick}
