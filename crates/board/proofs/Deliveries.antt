@@ -1,6 +1,6 @@
 -- Every call keeps the invariant of the board.
-use Rattle.std.proofs.Common.{◌≡◌, ℕ, zero, suc, ◌+◌, ◌%◌, ◌<◌, Bool, true, false, cond, not, ◌&&◌, eqb, List, [], ◌∷◌, ◌++◌, Some, Option, Ok, Err, Result, sym, refl, ap, ◌∙◌, subst, append-nil, arith}
-use Rattle.std.proofs.lemmas.Bool.{lt-ltb, ne_eqb, cond-false, and_right}
+use Rattle.std.proofs.Common.{◌≡◌, ℕ, zero, suc, ◌+◌, ◌<◌, Bool, true, false, cond, not, ◌&&◌, eqb, List, [], ◌∷◌, Some, Option, Ok, Err, Result, sym, refl, ap, ◌∙◌, subst, append-nil, arith}
+use Rattle.std.proofs.lemmas.Bool.{lt-ltb, ne_eqb, cond-true, cond-false, and_right}
 use Rattle.terms.specs.declared.channel_id.ChannelId.{ChannelId}
 use Rattle.terms.specs.declared.channel_id.ChannelId.TheVariants.{One, Two}
 use Rattle.terms.specs.declared.modem_line.ModemLine.{ModemLine}
@@ -13,6 +13,9 @@ use Rattle.terms.specs.declared.refusal.Refusal.TheVariants.{NoSuchSelect}
 use Rattle.terms.specs.declared.report.Report.{Report}
 use Rattle.channel.specs.declared.modem.ModemInput.{ModemInput}
 use Rattle.channel.specs.declared.channel.Channel.{Channel}
+use Rattle.channel.specs.declared.control.Control.{Control}
+use Rattle.channel.specs.declared.sender.Sender.{Sender}
+use Rattle.channel.specs.declared.receiving.Receiving.{Receiving}
 use Rattle.channel.specs.Control.{rate_code, divisor, format_of}
 use Rattle.channel.specs.Interrupts.{ier_written}
 use Rattle.channel.specs.Modem.{input_set}
@@ -22,14 +25,14 @@ use Rattle.channel.specs.Channel.{isr_read, rdr_read, tdr_written, modem_changed
 use Rattle.dacia.specs.declared.chip.Chip.{Chip}
 use Rattle.terms.specs.declared.register.Register.TheVariants.{Data}
 use Rattle.terms.specs.ChannelId.{other as far}
-use Rattle.dacia.specs.Access.{select_at, channel_at, register_at, place_at, access_at}
-use Rattle.dacia.specs.Chip.{channel_of, with_channel, answer_of, after_read_of, after_write_of, read_once, after_read_once, write_once, after_write_once}
+use Rattle.dacia.specs.Access.{select_at, place_at}
+use Rattle.dacia.specs.Chip.{channel_of, with_channel, answer_of, read_once, write_once}
 use Rattle.dacia.specs.Separation.{same}
 use Rattle.link.specs.Link.{Link, link_cycle}
 use Rattle.link.specs.Past.{Past, arrived_of, kept_of, past_cycle, past_write, past_read}
 use Rattle.link.proofs.Links.{LinkInv, cycle_inv, write_inv, read_inv, cts_inv}
 use Rattle.board.specs.Board.{State, with_chip, cycle_answer, after_cycle}
-use Rattle.board.specs.Sweep.{Order, cycles, entries, written, sweep_by}
+use Rattle.board.specs.Sweep.{Order, cycles, written, sweep_by}
 use Rattle.board.specs.Calls.{Call, read, enable, send, write_above, modem, cycle, sweep, accepted, step, Seen, did_read, did_enable, did_send, did_write_above, did_modem, did_sweep, did_refuse, seen, Played, play_one, play}
 use Rattle.board.specs.Delivery.{line_of, cts_after, cts_of, is_fresh, is_replaced, past_reading, past_after, past_of, past_sweep}
 use Rattle.board.proofs.Records.{words_more}
@@ -47,13 +50,19 @@ line_kept : (ch : ChannelId) (c : Chip) (t : State) → line_of ch (with_chip c 
 line_kept One c t = refl
 line_kept Two c t = refl
 
--- a change that no link sees
-pub record Still (f : Channel → Channel) : Type 0 where
-  pub control : (c : Channel) → (f c).control ≡ c.control
-  pub count : (c : Channel) → (f c).count ≡ c.count
-  pub level : (c : Channel) → (f c).modem.cts.level ≡ c.modem.cts.level
-  pub sender : (c : Channel) → (f c).sender ≡ c.sender
-  pub receiving : (c : Channel) → (f c).receiving ≡ c.receiving
+-- what links see of a channel, and a change that no link sees
+pub record Part : Type 0 where
+  pub control : Control
+  pub count : ℕ
+  pub level : Bool
+  pub sender : Sender
+  pub receiving : Receiving
+
+abbrev part : Channel → Part
+part c = record { control = c.control; count = c.count; level = c.modem.cts.level; sender = c.sender; receiving = c.receiving }
+
+abbrev Still : (Channel → Channel) → Type 0
+Still f = (c : Channel) → part (f c) ≡ part c
 
 module _ (cr fr D : ℕ) (dv : divisor (rate_code cr) ≡ Some D) (d : ChannelId → ℕ) where
   pub record Inv (w : Played) : Type 0 where
@@ -77,38 +86,20 @@ module _ (cr fr D : ℕ) (dv : divisor (rate_code cr) ≡ Some D) (d : ChannelId
       ((ch : ChannelId) (l : Bool) → cts_after ch v l ≡ l) → ((ch : ChannelId) (l : Bool) (p : Past) → past_after ch l v p ≡ p) →
       (w : Played) → Inv w → Inv (changed e f v w)
   still_inv e f v h hl hp w i =
-      let c : Chip = w.board.chip in
+      let same : (ch : ChannelId) → part (channel_of ch (changed e f v w).board.chip) ≡ part (channel_of ch w.board.chip) = λ ch. kept part f h e ch w.board.chip in
       record {
-        steady = kept_steady e f h.control h.count w.board i.steady;
-        level = λ ch. kept (λ x. x.modem.cts.level) f h.level e ch c ∙ i.level ch ∙ sym (hl ch (cts_of ch w.past));
+        steady = kept_steady e f (λ c. ap (λ p. p.control) (h c)) (λ c. ap (λ p. p.count) (h c)) w.board i.steady;
+        level = λ ch. ap (λ p. p.level) (same ch) ∙ i.level ch ∙ sym (hl ch (cts_of ch w.past));
         links = λ ch.
-            let same : link_of ch (changed e f v w).board ≡ link_of ch w.board = λ j. record {
-              phase = kept (λ x. x.count) f h.count e ch c j;
-              cts = kept (λ x. x.modem.cts.level) f h.level e ch c j;
-              sender = kept (λ x. x.sender) f h.sender e ch c j;
+            let seen : link_of ch (changed e f v w).board ≡ link_of ch w.board = λ j. record {
+              phase = (same ch j).count;
+              cts = (same ch j).level;
+              sender = (same ch j).sender;
               line = line_kept ch (changed e f v w).board.chip w.board j;
-              receiving = kept (λ x. x.receiving) f h.receiving e (far ch) c j;
+              receiving = (same (far ch) j).receiving;
             } in
-            let P : Link → Type 0 = λ k. LinkInv (format_of cr fr) (d ch) D k (past_of ch (v ∷ w.past)) in
-            let Q : Past → Type 0 = λ p. LinkInv (format_of cr fr) (d ch) D (link_of ch w.board) p in
-            subst P (sym same) (subst Q (sym (hp ch (cts_of ch w.past) (past_of ch w.past))) (i.links ch));
+            rw seen (rw (hp ch (cts_of ch w.past) (past_of ch w.past)) (i.links ch));
       }
-
-  -- calls that change nothing: those that are refused, and reads of CSR
-  idle_still : Still (λ c. c)
-  idle_still = record { control = λ c. refl; count = λ c. refl; level = λ c. refl; sender = λ c. refl; receiving = λ c. refl }
-
-  isr_still : Still isr_read
-  isr_still = record { control = λ c. refl; count = λ c. refl; level = λ c. refl; sender = λ c. refl; receiving = λ c. refl }
-
-  ier_still : (b : ℕ) → Still (λ c. with_interrupts (ier_written b c.interrupts) c)
-  ier_still b = record { control = λ c. refl; count = λ c. refl; level = λ c. refl; sender = λ c. refl; receiving = λ c. refl }
-
-  dcd_still : (l : Bool) → Still (modem_changed Dcd l)
-  dcd_still l = record { control = λ c. refl; count = λ c. refl; level = λ c. refl; sender = λ c. refl; receiving = λ c. refl }
-
-  dsr_still : (l : Bool) → Still (modem_changed Dsr l)
-  dsr_still l = record { control = λ c. refl; count = λ c. refl; level = λ c. refl; sender = λ c. refl; receiving = λ c. refl }
 
   -- a read of RDR, seen from the channel at the other end of the line
   fresh_note : (b : Bool) → is_fresh (Some (cond b Fresh Old)) ≡ b
@@ -120,10 +111,7 @@ module _ (cr fr D : ℕ) (dv : divisor (rate_code cr) ≡ Some D) (d : ChannelId
       (past_read (is_fresh (reading k.receiving).note) k.receiving.rdr (past_of ch w.past))
   rdr_link ch w i =
       let k : Link = link_of ch w.board in
-      let P : Bool → Type 0 = λ b.
-      LinkInv (format_of cr fr) (d ch) D (record k { receiving = emptied k.receiving })
-      (past_read b k.receiving.rdr (past_of ch w.past)) in
-      subst P (sym (fresh_note k.receiving.rdrf)) (read_inv (format_of cr fr) (d ch) D k (past_of ch w.past) (i.links ch))
+      rw (fresh_note k.receiving.rdrf) (read_inv (format_of cr fr) (d ch) D k (past_of ch w.past) (i.links ch))
 
   rdr_seen : ChannelId → Played → Seen
   rdr_seen e w = did_read (select_at e Data) (Ok (reading (channel_of e w.board.chip).receiving))
@@ -153,10 +141,7 @@ module _ (cr fr D : ℕ) (dv : divisor (rate_code cr) ≡ Some D) (d : ChannelId
       (past_write (is_replaced (Some (tdr_note k.sender))) v (past_of ch w.past))
   send_link ch v w i =
       let k : Link = link_of ch w.board in
-      let P : Bool → Type 0 = λ b.
-      LinkInv (format_of cr fr) (d ch) D (record k { sender = filled v k.sender })
-      (past_write b v (past_of ch w.past)) in
-      subst P (sym (replaced_note (is_empty k.sender.tdr))) (write_inv (format_of cr fr) (d ch) D k (past_of ch w.past) v (i.links ch))
+      rw (replaced_note (is_empty k.sender.tdr)) (write_inv (format_of cr fr) (d ch) D k (past_of ch w.past) v (i.links ch))
 
   send_seen : ChannelId → ℕ → Played → Seen
   send_seen e v w = did_send e v (Ok (Some (tdr_note (channel_of e w.board.chip).sender)))
@@ -205,7 +190,7 @@ module _ (cr fr D : ℕ) (dv : divisor (rate_code cr) ≡ Some D) (d : ChannelId
 
   -- a read at a select above 7 is refused and changes nothing
   above : (s : ℕ) → 7 < s → place_at s ≡ Err NoSuchSelect
-  above s h = ap (λ b. cond b (Err NoSuchSelect) (Ok (record { channel = channel_at s; register = register_at (s % 4) }))) (lt-ltb 7 s h)
+  above s h = cond-true _ _ _ (lt-ltb 7 s h)
 
   -- a read is no write, and only one of the far RDR counts
   not_rdr : (s : ℕ) (r : Result Reading Refusal) → (s ≡ 3 → ⊥) → (s ≡ 7 → ⊥) → (ch : ChannelId) (l : Bool) (p : Past) → past_after ch l (did_read s r) p ≡ p
@@ -219,35 +204,29 @@ module _ (cr fr D : ℕ) (dv : divisor (rate_code cr) ≡ Some D) (d : ChannelId
   read_above : (s : ℕ) → 7 < s → (w : Played) → Inv w → Inv (play_one (read s) w)
   unfolding step seen
   read_above s h w i =
-      let e : w.board.chip ≡ after_read_once s w.board.chip = ap (λ r. after_read_of (access_at r) w.board.chip) (sym (above s h)) in
-      let v : Seen = did_read s (read_once s w.board.chip) in
-      let P : Chip → Type 0 = λ c. Inv (record { board = with_chip c w.board; past = v ∷ w.past }) in
-      subst P e (still_read s One (λ c. c) idle_still (λ q. omega arith) (λ q. omega arith) w i)
+      rw (above s h) (still_inv One (λ c. c) (did_read s (Err NoSuchSelect)) (λ c. refl) (λ ch l. refl) (not_rdr s (Err NoSuchSelect) (λ q. omega arith) (λ q. omega arith)) w i)
 
   read_inv_at : (s : ℕ) (w : Played) → Inv w → Inv (play_one (read s) w)
   unfolding step seen rdr_seen
-  read_inv_at zero w i = still_read 0 One isr_read isr_still (λ q. omega arith) (λ q. omega arith) w i
-  read_inv_at (suc zero) w i = still_read 1 One (λ c. c) idle_still (λ q. omega arith) (λ q. omega arith) w i
-  read_inv_at (suc (suc zero)) w i = still_read 2 One (λ c. c) idle_still (λ q. omega arith) (λ q. omega arith) w i
+  read_inv_at zero w i = still_read 0 One isr_read (λ c. refl) (λ q. omega arith) (λ q. omega arith) w i
+  read_inv_at (suc zero) w i = still_read 1 One (λ c. c) (λ c. refl) (λ q. omega arith) (λ q. omega arith) w i
+  read_inv_at (suc (suc zero)) w i = still_read 2 One (λ c. c) (λ c. refl) (λ q. omega arith) (λ q. omega arith) w i
   read_inv_at (suc (suc (suc zero))) w i = rdr_inv One w i
-  read_inv_at (suc (suc (suc (suc zero)))) w i = still_read 4 Two isr_read isr_still (λ q. omega arith) (λ q. omega arith) w i
-  read_inv_at (suc (suc (suc (suc (suc zero))))) w i = still_read 5 Two (λ c. c) idle_still (λ q. omega arith) (λ q. omega arith) w i
-  read_inv_at (suc (suc (suc (suc (suc (suc zero)))))) w i = still_read 6 Two (λ c. c) idle_still (λ q. omega arith) (λ q. omega arith) w i
+  read_inv_at (suc (suc (suc (suc zero)))) w i = still_read 4 Two isr_read (λ c. refl) (λ q. omega arith) (λ q. omega arith) w i
+  read_inv_at (suc (suc (suc (suc (suc zero))))) w i = still_read 5 Two (λ c. c) (λ c. refl) (λ q. omega arith) (λ q. omega arith) w i
+  read_inv_at (suc (suc (suc (suc (suc (suc zero)))))) w i = still_read 6 Two (λ c. c) (λ c. refl) (λ q. omega arith) (λ q. omega arith) w i
   read_inv_at (suc (suc (suc (suc (suc (suc (suc zero))))))) w i = rdr_inv Two w i
   read_inv_at (suc (suc (suc (suc (suc (suc (suc (suc s)))))))) w i = read_above (suc (suc (suc (suc (suc (suc (suc (suc s)))))))) (omega arith) w i
 
   enable_inv : (e : ChannelId) (b : ℕ) (w : Played) → Inv w → Inv (play_one (enable e b) w)
   unfolding step seen
-  enable_inv One b w i = still_inv One (λ c. with_interrupts (ier_written b c.interrupts) c) (did_enable One b (write_once 0 w.board.chip)) (ier_still b) (λ ch l. refl) (λ ch l p. refl) w i
-  enable_inv Two b w i = still_inv Two (λ c. with_interrupts (ier_written b c.interrupts) c) (did_enable Two b (write_once 4 w.board.chip)) (ier_still b) (λ ch l. refl) (λ ch l p. refl) w i
+  enable_inv One b w i = still_inv One (λ c. with_interrupts (ier_written b c.interrupts) c) (did_enable One b (write_once 0 w.board.chip)) (λ c. refl) (λ ch l. refl) (λ ch l p. refl) w i
+  enable_inv Two b w i = still_inv Two (λ c. with_interrupts (ier_written b c.interrupts) c) (did_enable Two b (write_once 4 w.board.chip)) (λ c. refl) (λ ch l. refl) (λ ch l p. refl) w i
 
   write_above_lem : (s b : ℕ) (w : Played) → Inv w → Inv (play_one (write_above s b) w)
   unfolding step seen
   write_above_lem s b w i =
-      let e : w.board.chip ≡ after_write_once (8 + s) b w.board.chip = ap (λ r. after_write_of (access_at r) b w.board.chip) (sym (above (8 + s) (omega arith))) in
-      let v : Seen = did_write_above s b (write_once (8 + s) w.board.chip) in
-      let P : Chip → Type 0 = λ c. Inv (record { board = with_chip c w.board; past = v ∷ w.past }) in
-      subst P e (still_inv One (λ c. c) v idle_still (λ ch l. refl) (λ ch l p. refl) w i)
+      rw (above (8 + s) (omega arith)) (still_inv One (λ c. c) (did_write_above s b (Err NoSuchSelect)) (λ c. refl) (λ ch l. refl) (λ ch l p. refl) w i)
 
   other_line : (ch e : ChannelId) (l k : Bool) → cond (same ch e && false) k l ≡ l
   other_line ch e l k = ap (λ b. cond b k l) (and_right (same ch e) false refl)
@@ -255,8 +234,8 @@ module _ (cr fr D : ℕ) (dv : divisor (rate_code cr) ≡ Some D) (d : ChannelId
   modem_inv : (e : ChannelId) (line : ModemLine) (l : Bool) (w : Played) → Inv w → Inv (play_one (modem e line l) w)
   unfolding step seen
   modem_inv e Cts l w i = cts_inv_at e l w i
-  modem_inv e Dcd l w i = still_inv e (modem_changed Dcd l) (did_modem e Dcd l) (dcd_still l) (λ ch k. other_line ch e k l) (λ ch k p. refl) w i
-  modem_inv e Dsr l w i = still_inv e (modem_changed Dsr l) (did_modem e Dsr l) (dsr_still l) (λ ch k. other_line ch e k l) (λ ch k p. refl) w i
+  modem_inv e Dcd l w i = still_inv e (modem_changed Dcd l) (did_modem e Dcd l) (λ c. refl) (λ ch k. other_line ch e k l) (λ ch k p. refl) w i
+  modem_inv e Dsr l w i = still_inv e (modem_changed Dsr l) (did_modem e Dsr l) (λ c. refl) (λ ch k. other_line ch e k l) (λ ch k p. refl) w i
 
   -- one cycle of a link, with the level of CTS as the calls gave it
   cycle_one : (t : State) → Steady cr fr t → (ch : ChannelId) (l : Bool) (p : Past) → (channel_of ch t.chip).modem.cts.level ≡ l →
@@ -289,16 +268,7 @@ module _ (cr fr D : ℕ) (dv : divisor (rate_code cr) ≡ Some D) (d : ChannelId
     level = i.level;
     links = λ ch.
         let p : Past = past_of ch w.past in
-        let P : Past → Type 0 = λ q. LinkInv (format_of cr fr) (d ch) D (link_of ch w.board) q in
-        let e : p ≡ past_sweep (cts_of ch w.past) (far ch) 0 [] p = λ j. record {
-          arrived = sym (append-nil p.arrived) j;
-          kept = sym (append-nil p.kept) j;
-          fresh = p.fresh;
-          unreplaced = p.unreplaced;
-          row = p.row;
-          longest = p.longest;
-        } in
-        subst P e (i.links ch);
+        rw (append-nil p.arrived) (rw (append-nil p.kept) (i.links ch));
   }
   swung o (suc k) w i =
       let h = swung o k w i in
@@ -311,17 +281,8 @@ module _ (cr fr D : ℕ) (dv : divisor (rate_code cr) ≡ Some D) (d : ChannelId
             let p : Past = past_of ch w.past in
             let ws = written o k w.board in
             let a = cycle_answer t in
-            let q : Past = past_cycle l (answer_of (far ch) a).report (past_sweep l (far ch) k ws p) in
-            let e : q ≡ past_sweep l (far ch) (suc k) (ws ++ entries o (suc k) a) p = λ j. record {
-              arrived = words_more arrived_of (far ch) p.arrived ws o (suc k) a j;
-              kept = words_more kept_of (far ch) p.kept ws o (suc k) a j;
-              fresh = p.fresh;
-              unreplaced = p.unreplaced;
-              row = q.row;
-              longest = q.longest;
-            } in
-            let P : Past → Type 0 = λ z. LinkInv (format_of cr fr) (d ch) D (link_of ch (after_cycle t)) z in
-            subst P e (cycle_one t h.steady ch l (past_sweep l (far ch) k ws p) (h.level ch) (h.links ch));
+            rw (sym (words_more arrived_of (far ch) p.arrived ws o (suc k) a)) (rw (sym (words_more kept_of (far ch) p.kept ws o (suc k) a))
+            (cycle_one t h.steady ch l (past_sweep l (far ch) k ws p) (h.level ch) (h.links ch)));
       }
 
   sweep_inv : (k room : ℕ) (o : Order) (w : Played) → Inv w → (b : Bool) →

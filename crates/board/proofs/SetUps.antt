@@ -1,6 +1,7 @@
 -- A board that has just accepted its set-up delivers.
-use Rattle.std.proofs.Common.{◌≡◌, ℕ, zero, suc, ◌%◌, ◌<◌, Bool, true, false, cond, ◌&&◌, eqb, ltb, List, [], ◌∷◌, ◌++◌, length, get_or, replicate, is_ok, Some, None, Ok, Err, Result, sym, refl, ap, ◌∙◌, subst, mod-lt, arith}
-use Rattle.std.proofs.lemmas.Bool.{and_parts, or_parts, eqb-false, lt-ltb, ltb-true, cond-true, true≢false}
+use Rattle.std.proofs.Common.{◌≡◌, ℕ, ◌%◌, ◌<◌, Bool, true, false, cond, ◌&&◌, eqb, ltb, List, [], ◌∷◌, ◌++◌, length, replicate, is_ok, Some, None, Ok, Err, Result, sym, refl, ap, ◌∙◌, mod-lt, arith}
+use Rattle.std.proofs.lemmas.Bool.{cond_both, and_parts, or_parts, eqb-false, lt-ltb, cond-true, true≢false}
+use Rattle.std.proofs.lemmas.List.Folds.{list_all_at}
 use Rattle.terms.specs.declared.channel_id.ChannelId.{ChannelId}
 use Rattle.terms.specs.declared.channel_id.ChannelId.TheVariants.{One, Two}
 use Rattle.terms.specs.declared.refusal.Refusal.{Refusal}
@@ -10,12 +11,12 @@ use Rattle.terms.specs.ChannelId.{other as far}
 use Rattle.serial.specs.declared.receiver.Receiver.TheVariants.{Hunting}
 use Rattle.serial.specs.declared.transmitter.Transmitter.TheVariants.{Resting}
 use Rattle.serial.specs.Frame.{bit}
+use Rattle.channel.specs.declared.receiving.Receiving.{Receiving}
 use Rattle.channel.specs.declared.channel.Channel.{Channel}
 use Rattle.channel.specs.Control.{rate_code, divisors, divisor, format_of}
 use Rattle.channel.specs.Channel.{powered_on, after_reset, cr_written, fr_written, control_written, rdr_read, tdre, fob, any_set, isr_of, csr_of}
 use Rattle.channel.proofs.Bytes.{bit_7, bit_2, bit_0}
 use Rattle.serial.specs.Transmitter.{resting}
-use Rattle.dacia.specs.declared.chip.Chip.{Chip}
 use Rattle.dacia.specs.Chip.{channel_of}
 use Rattle.line.specs.Line.{all_high}
 use Rattle.link.specs.Past.{only}
@@ -30,9 +31,8 @@ use Rattle.board.proofs.Deliveries.{Inv, play_inv}
 -- a quiet line holds only high levels
 quiet_line : (ls : List Bool) → all_high ls ≡ true → ls ≡ replicate (length ls) true
 quiet_line [] h = refl
-quiet_line (l ∷ ls) h =
-    let p = and_parts l (all_high ls) h in
-    ap (λ z. z ∷ ls) p.0 ∙ ap (λ z. true ∷ z) (quiet_line ls p.1)
+quiet_line (true ∷ ls) h = ap (λ z. true ∷ z) (quiet_line ls h)
+quiet_line (false ∷ ls) h = absurd (true≢false (sym h))
 
 -- a channel as set-up leaves it
 pub record SetUp (cr fr : ℕ) (c : Channel) : Type 0 where
@@ -48,14 +48,10 @@ pub record SetUp (cr fr : ℕ) (c : Channel) : Type 0 where
 abbrev written_by : ℕ → Bool → Channel → Channel
 written_by b set c = cond set (fr_written b c) (cr_written b c)
 
-either_way : (b : Bool) → ◌≡◌ {A = ℕ} (cond b 0 0) 0
-either_way true = refl
-either_way false = refl
-
 set_up_by_lem : (cr fr : ℕ) → SetUp cr fr (rdr_read (written_by fr true (written_by cr false (after_reset powered_on))))
 set_up_by_lem cr fr = record {
   control = refl;
-  count = either_way (eqb (rate_code cr) (rate_code 0));
+  count = cond_both (eqb (rate_code cr) (rate_code 0)) 0 0 (λ n. n ≡ 0) (λ _. refl) (λ _. refl);
   level = refl;
   sender = refl;
   hunts = refl;
@@ -64,24 +60,7 @@ set_up_by_lem cr fr = record {
 }
 
 set_up_channel : (cr fr : ℕ) → bit cr 7 ≡ false → bit fr 7 ≡ true → SetUp cr fr (rdr_read (control_written fr (control_written cr (after_reset powered_on))))
-set_up_channel cr fr hc hf =
-    let P : Bool → Type 0 = λ b. SetUp cr fr (rdr_read (written_by fr b (written_by cr false (after_reset powered_on)))) in
-    let Q : Bool → Type 0 = λ b. SetUp cr fr (rdr_read (written_by fr (bit fr 7) (written_by cr b (after_reset powered_on)))) in
-    subst Q (sym hc) (subst P (sym hf) (set_up_by_lem cr fr))
-
-set_up_both : (cr fr : ℕ) → bit cr 7 ≡ false → bit fr 7 ≡ true → (ch : ChannelId) → SetUp cr fr (channel_of ch (set_up_chip cr fr))
-set_up_both cr fr hc hf One = set_up_channel cr fr hc hf
-set_up_both cr fr hc hf Two = set_up_channel cr fr hc hf
-
--- every divisor is above 0
-abbrev all_positive : List ℕ → Bool
-all_positive [] = true
-all_positive (x ∷ xs) = ltb 0 x && all_positive xs
-
-positive_at : (xs : List ℕ) → all_positive xs ≡ true → (k : ℕ) → k < length xs → 0 < get_or xs k 0
-positive_at [] h k l = absurd (omega arith)
-positive_at (x ∷ xs) h zero l = ltb-true 0 x (and_parts (ltb 0 x) (all_positive xs) h).0
-positive_at (x ∷ xs) h (suc k) l = positive_at xs (and_parts (ltb 0 x) (all_positive xs) h).1 k (omega arith)
+set_up_channel cr fr hc hf = rw hc (rw hf (set_up_by_lem cr fr))
 
 module _ (cr fr : ℕ) (good : bad_control cr ≡ false) (hf : bit fr 7 ≡ true) where
   low_code : rate_code cr < 15
@@ -93,17 +72,21 @@ module _ (cr fr : ℕ) (good : bad_control cr ≡ false) (hf : bit fr 7 ≡ true
   divides : divisor (rate_code cr) ≡ Some (divisor_of cr)
   divides = cond-true (ltb (rate_code cr) 15) (Some (divisor_of cr)) None (lt-ltb (rate_code cr) 15 low_code)
 
+  -- every divisor is above 0
   positive : 0 < divisor_of cr
-  positive = positive_at divisors refl (rate_code cr) low_code
+  positive =
+      let some : divisor_of cr ≡ 0 → ⊥ = λ e. true≢false (list_all_at (ltb 0) divisors (rate_code cr) 0 low_code (ap (ltb 0) e)) in
+      omega (arith, some)
 
   facts : (ch : ChannelId) → SetUp cr fr (channel_of ch (set_up_chip cr fr))
-  facts = set_up_both cr fr (or_parts (bit cr 7) (eqb (rate_code cr) 15) good).0 hf
+  facts =
+      let s = set_up_channel cr fr (or_parts (bit cr 7) (eqb (rate_code cr) 15) good).0 hf in
+      both (λ ch. SetUp cr fr (channel_of ch (set_up_chip cr fr))) s s
 
   start : (t : State) → t.chip ≡ set_up_chip cr fr → all_high t.a ≡ true → all_high t.b ≡ true →
       Inv cr fr (divisor_of cr) divides (λ ch. length (line_of ch t)) (started t)
   start t e qa qb =
-      let P : (ch : ChannelId) → Chip → Type 0 = λ ch c. SetUp cr fr (channel_of ch c) in
-      let at : (ch : ChannelId) → SetUp cr fr (channel_of ch t.chip) = λ ch. subst (P ch) (sym e) (facts ch) in
+      let at : (ch : ChannelId) → SetUp cr fr (channel_of ch t.chip) = λ ch. rw e (facts ch) in
       let quiet : (ch : ChannelId) → all_high (line_of ch t) ≡ true = both (λ ch. all_high (line_of ch t) ≡ true) qa qb in
       record {
         steady = record { control = λ ch. (at ch).control; together = λ ch. (at (far ch)).count ∙ sym (at ch).count };
@@ -112,14 +95,15 @@ module _ (cr fr : ℕ) (good : bad_control cr ≡ false) (hf : bit fr 7 ≡ true
             (at (far ch)).hunts (at (far ch)).empty (at (far ch)).clean;
       }
 
--- what the far channel's registers show
-pub record Shows (c : Channel) : Type 0 where
-  pub parity : bit (isr_of c) 2 ≡ c.receiving.errors.par
-  pub framing : bit (csr_of c) 7 ≡ c.receiving.errors.fe
-  pub break : bit (csr_of c) 2 ≡ c.receiving.errors.brk
-  pub full : bit (isr_of c) 0 ≡ c.receiving.rdrf
+-- what the bytes of ISR, CSR and RDR show of a channel's receiving side
+pub record Shows (isr csr rdr : ℕ) (r : Receiving) : Type 0 where
+  pub parity : bit isr 2 ≡ r.errors.par
+  pub framing : bit csr 7 ≡ r.errors.fe
+  pub break : bit csr 2 ≡ r.errors.brk
+  pub full : bit isr 0 ≡ r.rdrf
+  pub word : rdr ≡ r.rdr
 
-shows : (c : Channel) → Shows c
+shows : (c : Channel) → Shows (isr_of c) (csr_of c) c.receiving.rdr c.receiving
 shows c =
     let m = c.modem in
     let e = c.receiving.errors in record {
@@ -127,20 +111,13 @@ shows c =
       framing = bit_7 e.fe (tdre c && resting c.sender.transmitter) m.cts.level m.dcd.level m.dsr.level e.brk (bit c.control.fr 1) (bit c.control.fr 0);
       break = bit_2 e.fe (tdre c && resting c.sender.transmitter) m.cts.level m.dcd.level m.dsr.level e.brk (bit c.control.fr 1) (bit c.control.fr 0);
       full = bit_0 (any_set c) (tdre c) m.cts.changed m.dcd.changed m.dsr.changed e.par (fob c) c.receiving.rdrf;
+      word = refl;
     }
 
 -- the bytes that reads of a channel's registers answer
-isr_byte : (ch : ChannelId) (t : State) → byte_at ch Interrupt t ≡ isr_of (channel_of ch t.chip)
-isr_byte One t = refl
-isr_byte Two t = refl
-
-csr_byte : (ch : ChannelId) (t : State) → byte_at ch Control t ≡ csr_of (channel_of ch t.chip)
-csr_byte One t = refl
-csr_byte Two t = refl
-
-rdr_byte : (ch : ChannelId) (t : State) → byte_at ch Data t ≡ (channel_of ch t.chip).receiving.rdr
-rdr_byte One t = refl
-rdr_byte Two t = refl
+reads_show : (ch : ChannelId) (t : State) → Shows (byte_at ch Interrupt t) (byte_at ch Control t) (byte_at ch Data t) (channel_of ch t.chip).receiving
+reads_show One t = shows t.chip.channels.one
+reads_show Two t = shows t.chip.channels.two
 
 -- what the invariant says
 delivered : (cr fr D : ℕ) (dv : divisor (rate_code cr) ≡ Some D) (d : ChannelId → ℕ) (w : Played) → Inv cr fr D dv d w → (ch : ChannelId) →
@@ -148,20 +125,15 @@ delivered : (cr fr D : ℕ) (dv : divisor (rate_code cr) ≡ Some D) (d : Channe
 delivered cr fr D dv d w i ch =
     let l = i.links ch in
     let a = arrives (format_of cr fr) (d ch) D (link_of ch w.board) (past_of ch w.past) l in
-    let c : Channel = channel_of (far ch) w.board.chip in
-    let s = shows c in
-    let t : State = w.board in
+    let s = reads_show (far ch) w.board in
+    let fresh : List ℕ = (past_of ch w.past).fresh in
     record {
       in_order = a.in_order;
       all_in_time = a.all_in_time;
-      no_parity_flag = ap (λ z. bit z 2) (isr_byte (far ch) t) ∙ s.parity ∙ l.clean.par;
-      no_framing_flag = ap (λ z. bit z 7) (csr_byte (far ch) t) ∙ s.framing ∙ l.clean.fe;
-      no_break_flag = ap (λ z. bit z 2) (csr_byte (far ch) t) ∙ s.break ∙ l.clean.brk;
-      fresh_reads =
-          ap (λ z. (past_of ch w.past).fresh ++ only (bit z 0) (byte_at (far ch) Data t)) (isr_byte (far ch) t)
-          ∙ ap (λ z. (past_of ch w.past).fresh ++ only z (byte_at (far ch) Data t)) s.full
-          ∙ ap (λ z. (past_of ch w.past).fresh ++ only c.receiving.rdrf z) (rdr_byte (far ch) t)
-          ∙ l.reads;
+      no_parity_flag = s.parity ∙ l.clean.par;
+      no_framing_flag = s.framing ∙ l.clean.fe;
+      no_break_flag = s.break ∙ l.clean.brk;
+      fresh_reads = (λ j. fresh ++ only (s.full j) (s.word j)) ∙ l.reads;
     }
 
 -- a set-up is accepted only with good values and quiet lines
@@ -187,4 +159,4 @@ delivers cr fr s s' (Ok u) a l h =
     let all : Delivers cr fr t = λ ch ks.
     delivered cr fr (divisor_of cr) (divides cr fr k.control k.format) (λ ch. length (line_of ch t)) (play ks (started t))
     (play_inv cr fr (divisor_of cr) (divides cr fr k.control k.format) (λ ch. length (line_of ch t)) ks (started t) begun) ch in
-    subst (Delivers cr fr) (sym l) all
+    rw l all

@@ -1,5 +1,5 @@
 -- A channel in a cycle of the board, seen through its sender and its receiving side.
-use Rattle.std.proofs.Common.{◌≡◌, ℕ, ◌+◌, Bool, true, false, cond, ltb, Some, None, Option, sym, refl, ap, ◌∙◌, subst}
+use Rattle.std.proofs.Common.{◌≡◌, ℕ, ◌+◌, Bool, true, false, cond, ltb, Some, None, Option, refl, ap, ◌∙◌}
 use Rattle.terms.specs.declared.report.Report.{Report}
 use Rattle.serial.specs.declared.format.Format.{Format}
 use Rattle.serial.specs.Frame.{bit}
@@ -56,5 +56,4 @@ pub turned : (cr fr D : ℕ) (c : Channel) (rxd : Bool) → divisor (rate_code c
     Turned (format_of cr fr) c rxd (ltb (c.count + 1) D) (cycled rxd no_marks c).0 (cycled rxd no_marks c).1
 turned cr fr D c rxd dv e =
     let o : divisor (rate_code c.control.cr) ≡ Some D = ap (λ k. divisor (rate_code k.cr)) e ∙ dv in
-    let P : Option ℕ → Type 0 = λ z. Turned (format_of cr fr) c rxd (ltb (c.count + 1) D) (cycled_by z rxd c).0 (cycled_by z rxd c).1 in
-    subst P (sym o) (turned_by cr fr c rxd e (ltb (c.count + 1) D))
+    rw o (turned_by cr fr c rxd e (ltb (c.count + 1) D))

@@ -1,8 +1,9 @@
 -- Separation, by one induction over the calls for either channel.
-use Rattle.std.proofs.Common.{◌≡◌, ℕ, ◌%◌, Bool, true, false, cond, ◌||◌, ltb, List, [], ◌∷◌, Ok, Err, sym, refl, ap, ◌∙◌}
+use Rattle.std.proofs.Common.{◌≡◌, ℕ, ◌%◌, Bool, true, false, cond, ◌||◌, ltb, List, [], ◌∷◌, Ok, Err, Result, sym, refl, ap, ◌∙◌}
 use Rattle.std.proofs.lemmas.Bool.{true≢false}
 use Rattle.terms.specs.declared.channel_id.ChannelId.{ChannelId}
 use Rattle.terms.specs.declared.channel_id.ChannelId.TheVariants.{One, Two}
+use Rattle.terms.specs.declared.refusal.Refusal.{Refusal}
 use Rattle.terms.specs.declared.refusal.Refusal.TheVariants.{NoSuchSelect}
 use Rattle.terms.specs.Channels.{value_of}
 use Rattle.channel.specs.declared.channel.Channel.{Channel}
@@ -12,17 +13,11 @@ use Rattle.channel.specs.Calls.{read_answer, after_read, write_answer, after_wri
 use Rattle.dacia.specs.declared.access.Place.{Place}
 use Rattle.dacia.specs.declared.chip.Chip.{Chip}
 use Rattle.dacia.specs.declared.chip.Inputs.{Inputs}
-use Rattle.dacia.specs.Access.{channel_at, register_at, place_at, access_at}
-use Rattle.dacia.specs.Chip.{channel_of, with_channel, answer_of, chip_reset, read_of, after_read_of, write_of, after_write_of, after_read_once, after_write_once, chip_cycled}
+use Rattle.dacia.specs.Access.{channel_at, register_at, access_at, ReadAccess, WriteAccess}
+use Rattle.dacia.specs.Chip.{channel_of, with_channel, answer_of, chip_reset, read_of, after_read_of, write_of, after_write_of, chip_cycled}
 use Rattle.dacia.specs.Separation.{Call, reset, read, write, modem, cycle, step, note, reports, read_shown, write_shown, answer, shown, same, concerns, own_inputs, own, struck, seen, Separated}
 
--- a channel that was changed, and the other
-changed_same : (ch e : ChannelId) (x : Channel) (c : Chip) → same ch e ≡ true → channel_of ch (with_channel e x c) ≡ x
-changed_same One One x c h = refl
-changed_same Two Two x c h = refl
-changed_same One Two x c h = absurd (true≢false (sym h))
-changed_same Two One x c h = absurd (true≢false (sym h))
-
+-- a change of the other channel
 changed_other : (ch e : ChannelId) (x : Channel) (c : Chip) → same ch e ≡ false → channel_of ch (with_channel e x c) ≡ channel_of ch c
 changed_other One Two x c h = refl
 changed_other Two One x c h = refl
@@ -62,90 +57,62 @@ pub record Alike (ch : ChannelId) (k l : Call) (c d : Chip) : Type 0 where
 -- a change of a channel by a function of that channel
 moved : (ch e : ChannelId) (f : Channel → Channel) (c d : Chip) → same ch e ≡ true → channel_of ch c ≡ channel_of ch d →
     channel_of ch (with_channel e (f (channel_of e c)) c) ≡ channel_of ch (with_channel e (f (channel_of e d)) d)
-moved ch e f c d h a = changed_same ch e (f (channel_of e c)) c h ∙ ap f (same_channel ch e c d h a) ∙ sym (changed_same ch e (f (channel_of e d)) d h)
+moved One One f c d h a = ap f a
+moved Two Two f c d h a = ap f a
+moved One Two f c d h a = absurd (true≢false (sym h))
+moved Two One f c d h a = absurd (true≢false (sym h))
 
 abbrev place : ℕ → Place
 place s = record { channel = channel_at s; register = register_at (s % 4) }
 
--- the place that a select names, above 7 and not
-no_place : (s : ℕ) → ltb 7 s ≡ true → place_at s ≡ Err NoSuchSelect
-no_place s e = ap (λ b. cond b (Err NoSuchSelect) (Ok (place s))) e
-
-some_place : (s : ℕ) → ltb 7 s ≡ false → place_at s ≡ Ok (place s)
-some_place s e = ap (λ b. cond b (Err NoSuchSelect) (Ok (place s))) e
+-- what a select names, by whether it is above 7
+abbrev place_by : Bool → ℕ → Result Place Refusal
+place_by high s = cond high (Err NoSuchSelect) (Ok (place s))
 
 -- calls that are left
 module _ (ch : ChannelId) (c d : Chip) (agree : channel_of ch c ≡ channel_of ch d) where
-  read_alike : (s : ℕ) (high : Bool) → ltb 7 s ≡ high → (high || same ch (channel_at s)) ≡ true → Alike ch (read s) (read s) c d
-  unfolding step answer
-  read_alike s true e h =
-      let q = no_place s e in
-      record {
-        answers = ap (λ r. read_shown (read_of (access_at r) c)) q ∙ sym (ap (λ r. read_shown (read_of (access_at r) d)) q);
-        leaves = ap (λ r. channel_of ch (after_read_of (access_at r) c)) q ∙ agree ∙ sym (ap (λ r. channel_of ch (after_read_of (access_at r) d)) q);
-      }
-  read_alike s false e h =
-      let q = some_place s e in
+  read_alike : (s : ℕ) (high : Bool) → (high || same ch (channel_at s)) ≡ true → let r : Result ReadAccess Refusal = access_at (place_by high s) in
+      (read_shown (read_of r c) ≡ read_shown (read_of r d)) × (channel_of ch (after_read_of r c) ≡ channel_of ch (after_read_of r d))
+  read_alike s true h = (refl, agree)
+  read_alike s false h =
       let e = channel_at s in
       let g = (place s).register in
-      record {
-        answers = ap (λ r. read_shown (read_of (access_at r) c)) q
-            ∙ ap (λ x. read_shown (read_answer g x)) (same_channel ch e c d h agree)
-            ∙ sym (ap (λ r. read_shown (read_of (access_at r) d)) q);
-        leaves = ap (λ r. channel_of ch (after_read_of (access_at r) c)) q
-            ∙ moved ch e (after_read g) c d h agree
-            ∙ sym (ap (λ r. channel_of ch (after_read_of (access_at r) d)) q);
-      }
+      (ap (λ x. read_shown (read_answer g x)) (same_channel ch e c d h agree), moved ch e (after_read g) c d h agree)
 
-  write_alike : (s b : ℕ) (high : Bool) → ltb 7 s ≡ high → (high || same ch (channel_at s)) ≡ true → Alike ch (write s b) (write s b) c d
-  unfolding step answer
-  write_alike s b true e h =
-      let q = no_place s e in
-      record {
-        answers = ap (λ r. write_shown (write_of (access_at r) c)) q ∙ sym (ap (λ r. write_shown (write_of (access_at r) d)) q);
-        leaves = ap (λ r. channel_of ch (after_write_of (access_at r) b c)) q ∙ agree ∙ sym (ap (λ r. channel_of ch (after_write_of (access_at r) b d)) q);
-      }
-  write_alike s b false e h =
-      let q = some_place s e in
+  write_alike : (s b : ℕ) (high : Bool) → (high || same ch (channel_at s)) ≡ true → let r : Result WriteAccess Refusal = access_at (place_by high s) in
+      (write_shown (write_of r c) ≡ write_shown (write_of r d)) × (channel_of ch (after_write_of r b c) ≡ channel_of ch (after_write_of r b d))
+  write_alike s b true h = (refl, agree)
+  write_alike s b false h =
       let e = channel_at s in
       let g = (place s).register in
-      record {
-        answers = ap (λ r. write_shown (write_of (access_at r) c)) q
-            ∙ ap (λ x. note (write_answer g x)) (same_channel ch e c d h agree)
-            ∙ sym (ap (λ r. write_shown (write_of (access_at r) d)) q);
-        leaves = ap (λ r. channel_of ch (after_write_of (access_at r) b c)) q
-            ∙ moved ch e (after_write g b) c d h agree
-            ∙ sym (ap (λ r. channel_of ch (after_write_of (access_at r) b d)) q);
-      }
+      (ap (λ x. note (write_answer g x)) (same_channel ch e c d h agree), moved ch e (after_write g b) c d h agree)
 
   alike : (k : Call) → concerns ch k ≡ true → Alike ch k (own ch k) c d
   unfolding step answer concerns own
   alike reset h = record { answers = refl; leaves = reset_channel ch c ∙ ap after_reset agree ∙ sym (reset_channel ch d) }
-  alike (read s) h = read_alike s (ltb 7 s) refl h
-  alike (write s b) h = write_alike s b (ltb 7 s) refl h
+  alike (read s) h = let a = read_alike s (ltb 7 s) h in record { answers = a.0; leaves = a.1 }
+  alike (write s b) h = let a = write_alike s b (ltb 7 s) h in record { answers = a.0; leaves = a.1 }
   alike (modem e line l) h = record { answers = refl; leaves = moved ch e (modem_changed line l) c d h agree }
   alike (cycle i) h =
       let whole = cycle_channel ch i c ∙ ap (cycled (rxd ch i) i.marks) agree ∙ cycle_own ch i (channel_of ch d) ∙ sym (cycle_channel ch (own_inputs ch i) d) in
       record { answers = ap (λ a. reports a.0.report) whole; leaves = ap (λ a. a.1) whole }
 
 -- calls that are struck out leave the channel as it was
-read_apart : (ch : ChannelId) (s : ℕ) (c : Chip) (high : Bool) → ltb 7 s ≡ high → (high || same ch (channel_at s)) ≡ false → channel_of ch (after_read_once s c) ≡ channel_of ch c
-read_apart ch s c true e h = absurd (true≢false h)
-read_apart ch s c false e h =
-    ap (λ r. channel_of ch (after_read_of (access_at r) c)) (some_place s e)
-    ∙ changed_other ch (channel_at s) (after_read (place s).register (channel_of (channel_at s) c)) c h
+read_apart : (ch : ChannelId) (s : ℕ) (c : Chip) (high : Bool) → (high || same ch (channel_at s)) ≡ false →
+    channel_of ch (after_read_of (access_at (place_by high s)) c) ≡ channel_of ch c
+read_apart ch s c true h = absurd (true≢false h)
+read_apart ch s c false h = changed_other ch (channel_at s) (after_read (place s).register (channel_of (channel_at s) c)) c h
 
-write_apart : (ch : ChannelId) (s b : ℕ) (c : Chip) (high : Bool) → ltb 7 s ≡ high → (high || same ch (channel_at s)) ≡ false → channel_of ch (after_write_once s b c) ≡ channel_of ch c
-write_apart ch s b c true e h = absurd (true≢false h)
-write_apart ch s b c false e h =
-    ap (λ r. channel_of ch (after_write_of (access_at r) b c)) (some_place s e)
-    ∙ changed_other ch (channel_at s) (after_write (place s).register b (channel_of (channel_at s) c)) c h
+write_apart : (ch : ChannelId) (s b : ℕ) (c : Chip) (high : Bool) → (high || same ch (channel_at s)) ≡ false →
+    channel_of ch (after_write_of (access_at (place_by high s)) b c) ≡ channel_of ch c
+write_apart ch s b c true h = absurd (true≢false h)
+write_apart ch s b c false h = changed_other ch (channel_at s) (after_write (place s).register b (channel_of (channel_at s) c)) c h
 
 apart : (ch : ChannelId) (k : Call) (c : Chip) → concerns ch k ≡ false → channel_of ch (step k c) ≡ channel_of ch c
 unfolding step concerns
 apart ch reset c h = absurd (true≢false h)
-apart ch (read s) c h = read_apart ch s c (ltb 7 s) refl h
-apart ch (write s b) c h = write_apart ch s b c (ltb 7 s) refl h
+apart ch (read s) c h = read_apart ch s c (ltb 7 s) h
+apart ch (write s b) c h = write_apart ch s b c (ltb 7 s) h
 apart ch (modem e line l) c h = changed_other ch e (modem_changed line l (channel_of e c)) c h
 apart ch (cycle i) c h = absurd (true≢false h)
 

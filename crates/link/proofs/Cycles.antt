@@ -1,7 +1,8 @@
 -- A cycle keeps the invariant of the motion.
-use Rattle.std.proofs.Common.{◌≡◌, ℕ, suc, ◌+◌, ◌-◌, ◌*◌, ◌<◌, ◌≤◌, max, Bool, true, false, cond, ltb, ◌⊎◌, List, [], ◌∷◌, ◌++◌, map, length, Some, None, Option, sym, refl, ap, ◌∙◌, subst, inl, inr, append_assoc, append-nil, mul-le-mul_right, one-mul, arith, length-append}
+use Rattle.std.proofs.Common.{◌≡◌, ℕ, suc, ◌+◌, ◌-◌, ◌*◌, ◌<◌, ◌≤◌, max, Bool, true, false, cond, ltb, ◌⊎◌, List, [], ◌∷◌, ◌++◌, map, length, Some, None, Option, sym, refl, ap, ◌∙◌, inl, inr, append_assoc, append-nil, arith, length-append}
 use Rattle.std.proofs.lemmas.List.{map_push}
 use Rattle.std.proofs.lemmas.Bool.{ltb-true, ltb-false}
+use Rattle.std.specs.Option.{option_to_list}
 use Rattle.serial.specs.declared.format.Format.{Format}
 use Rattle.serial.specs.declared.receiver.Receiver.{Receiver}
 use Rattle.serial.specs.declared.receiver.Received.{Received}
@@ -10,14 +11,13 @@ use Rattle.serial.specs.declared.transmitter.Transmitter.TheVariants.{Resting, S
 use Rattle.serial.specs.Frame.{frame}
 use Rattle.serial.specs.Receiver.{heard}
 use Rattle.serial.specs.Transmitter.{level, frame_ticks, taken}
-use Rattle.serial.proofs.Formats.{frame_bounds}
 use Rattle.channel.specs.Sender.{handed, sent}
 use Rattle.line.specs.Line.{leaves, held, length_held}
 use Rattle.link.proofs.Runs.{R, after, turn_r}
 use Rattle.link.proofs.WholeFrame.{level_at}
 use Rattle.link.proofs.Flow.{Flow, flow_idle, flow_step, flow_frame}
 use Rattle.link.proofs.Pending.{pending, pend_mid, pend_next, pend_last, pend_some, pend_most, pend_start}
-use Rattle.link.proofs.Motion.{frame_cycles, Fits, is_full, waiting, sent_as, extra, Timing, Motion, Going, Next}
+use Rattle.link.proofs.Motion.{frame_cycles, some_ticks, frame_time, Fits, is_full, sent_as, extra, Timing, Motion, Going, Next}
 
 -- the line gives its oldest level and takes the sender's
 shift_eq : (line : List Bool) (l : Bool) (rest : List Bool) → line ++ (l ∷ rest) ≡ leaves line l ∷ (held line l ++ rest)
@@ -34,15 +34,12 @@ module _ (x : Format) (d D : ℕ) where
       Flow x D (line ++ (l ∷ rest)) r L i →
       (j : ℕ) × Flow x D (held line l ++ rest) (turn_r x (leaves line l) r b) L j × ((j ≡ i) ⊎ (length (held line l ++ rest) ≤ j))
   advance line l rest r L i b e f =
-      let P : List Bool → Type 0 = λ ls. Flow x D ls r L i in
-      let s = flow_step x D (leaves line l) (held line l ++ rest) r L i (subst P (shift_eq line l rest) f) in
-      let Q : Bool → Type 0 = λ b. Flow x D (held line l ++ rest) (turn_r x (leaves line l) r b) L s.0 in
-      (s.0, subst Q e s.1, s.2)
+      let s = flow_step x D (leaves line l) (held line l ++ rest) r L i (rw (sym (shift_eq line l rest)) f) in
+      (s.0, rw (sym e) s.1, s.2)
 
   idle_level : (line : List Bool) (r : R) (L : List Received) (i : ℕ) → Flow x D (line ++ []) r L i → Flow x D (line ++ (true ∷ [])) r L (suc i)
   idle_level line r L i f =
-      let P : List Bool → Type 0 = λ ls. Flow x D ls r L (suc i) in
-      subst P (append_assoc line [] (true ∷ [])) (flow_idle x D (line ++ []) r L i f)
+      rw (sym (append_assoc line [] (true ∷ []))) (flow_idle x D (line ++ []) r L i f)
 
   nothing : (q : List Bool) → length q ≡ d → length (q ++ []) ≡ d
   nothing q h = let e = length-append q [] in omega arith
@@ -85,8 +82,7 @@ module _ (x : Format) (d D : ℕ) where
       let lt = ltb-true (r.phase + 1) D e in
       let rest : List Bool = pending D M (r.phase + 1) (Sending y f c) in
       let given : pending D M r.phase (Sending y f c) ≡ l ∷ rest = pend_mid D M r.phase y f c h lt in
-      let P : List Bool → Type 0 = λ ls. Flow x D (line ++ ls) r L o.idle in
-      let a = advance line l rest r L o.idle true e (subst P given o.flow) in
+      let a = advance line l rest r L o.idle true e (rw (sym given) o.flow) in
       record {
         idle = a.0;
         flow = a.1;
@@ -108,18 +104,8 @@ module _ (x : Format) (d D : ℕ) where
       (row' + ((D - 0) + T) ≤ 2 * T) × (best' < 2 * T)
   wait_timing T row best row' best' a n o = omega arith
 
-  some_ticks : 0 < frame_ticks x
-  some_ticks = let b = (frame_bounds x).0 in omega arith
-
-  frame_time : 0 < D → (0 < frame_cycles x D) × (D ≤ frame_cycles x D)
-  frame_time h =
-      let t = some_ticks in
-      let e : 1 * D ≤ frame_ticks x * D = mul-le-mul_right D (omega arith) in
-      let s = one-mul D in
-      omega arith
-
   begin_going : 0 < D → (tdr : Option ℕ) (cts : Bool) (q : List Bool) (log : List Received) (t : Option Received × Receiver) (U : Bool → List ℕ) (j row best row' best' : ℕ) →
-      length q ≡ d → U false ≡ U (is_full tdr) ++ waiting tdr → Next cts row best row' best' →
+      length q ≡ d → U false ≡ U (is_full tdr) ++ option_to_list tdr → Next cts row best row' best' →
       Flow x D (q ++ []) (after 0 log t) (map (sent_as x) (U (is_full tdr))) j → Before (frame_cycles x D) (is_full tdr) row best row' best' j →
       Going x d D (handed (taken x cts tdr) tdr) q (after 0 log t) U row' best'
   begin_going h (Some v) false q log t U j row best row' best' g u n f o =
@@ -127,21 +113,18 @@ module _ (x : Format) (d D : ℕ) where
       let M : ℕ = frame_ticks x in
       let r : R = after 0 log t in
       let L : List Received = map (sent_as x) (U true) in
-      let P : List Bool → Type 0 = λ ls. Flow x D ls r L j in
-      let whole = flow_frame x D v q r L j h (subst P (append-nil q) f) in
-      let Q : List Bool → Type 0 = λ ls. Flow x D (q ++ ls) r (L ++ (sent_as x v ∷ [])) 0 in
-      let placed : Flow x D (q ++ pending D M 0 (Sending x f0 0)) r (L ++ (sent_as x v ∷ [])) 0 = subst Q (sym (pend_start D M x f0 some_ticks)) whole in
-      let S : List Received → Type 0 = λ z. Flow x D (q ++ pending D M 0 (Sending x f0 0)) r z 0 in
+      let whole = flow_frame x D v q r L j h (rw (sym (append-nil q)) f) in
+      let placed : Flow x D (q ++ pending D M 0 (Sending x f0 0)) r (L ++ (sent_as x v ∷ [])) 0 = rw (pend_start D M x f0 (some_ticks x)) whole in
       let logged : L ++ (sent_as x v ∷ []) ≡ map (sent_as x) (U false) = sym (ap (map (sent_as x)) u ∙ map_push (sent_as x) (U true) v) in
       record {
         phase_low = h;
-        fits = (refl, some_ticks);
+        fits = (refl, (some_ticks x));
         line_size = g;
         motion = record {
           idle = 0;
-          flow = subst S logged placed;
+          flow = rw (sym logged) placed;
           timing = start_timing (frame_cycles x D) (length (pending D M 0 (Sending x f0 0))) row best row' best'
-              (pend_most D M 0 x f0 0 h some_ticks) (frame_time h).0 n o;
+              (pend_most D M 0 x f0 0 h (some_ticks x)) (frame_time x D h).0 n o;
         };
         queue = sym (append-nil (U false));
       }
@@ -150,7 +133,7 @@ module _ (x : Format) (d D : ℕ) where
         phase_low = h;
         fits = tt;
         line_size = g;
-        motion = record { idle = j; flow = f; timing = wait_timing (frame_cycles x D) row best row' best' (frame_time h).1 n o };
+        motion = record { idle = j; flow = f; timing = wait_timing (frame_cycles x D) row best row' best' (frame_time x D h).1 n o };
         queue = u;
       }
   begin_going h None cts q log t U j row best row' best' g u n f o =
@@ -175,7 +158,7 @@ module _ (x : Format) (d D : ℕ) where
 
   -- a frame under way, by whether its next count still belongs to it
   sending : (y : Format) (f c : ℕ) (tdr : Option ℕ) (cts : Bool) (line : List Bool) (r : R) (U : Bool → List ℕ) (row best row' best' : ℕ) →
-      r.phase < D → Fits x (Sending y f c) → length line ≡ d → U false ≡ U (is_full tdr) ++ waiting tdr →
+      r.phase < D → Fits x (Sending y f c) → length line ≡ d → U false ≡ U (is_full tdr) ++ option_to_list tdr →
       ltb (r.phase + 1) D ≡ false → Next cts row best row' best' →
       Motion x d D (Sending y f c) (is_full tdr) line r (map (sent_as x) (U (is_full tdr))) row best →
       (z : Bool) → ltb (c + 1) (frame_ticks y) ≡ z →
@@ -186,8 +169,7 @@ module _ (x : Format) (d D : ℕ) where
       let lt : c + 1 < M = ltb-true (c + 1) M (ap (λ w. ltb (c + 1) (frame_ticks w)) (sym b.0) ∙ z) in
       let rest : List Bool = pending D M 0 (Sending y f (c + 1)) in
       let given : pending D M r.phase (Sending y f c) ≡ level_at f c ∷ rest = pend_next D M r.phase y f c h (ltb-false (r.phase + 1) D e) lt in
-      let P : List Bool → Type 0 = λ ls. Flow x D (line ++ ls) r L o.idle in
-      let a = advance line (level_at f c) rest r L o.idle false e (subst P given o.flow) in
+      let a = advance line (level_at f c) rest r L o.idle false e (rw (sym given) o.flow) in
       record {
         phase_low = omega arith;
         fits = (b.0, lt);
@@ -205,15 +187,14 @@ module _ (x : Format) (d D : ℕ) where
       let L : List Received = map (sent_as x) (U (is_full tdr)) in
       let last : M ≤ c + 1 = ltb-false (c + 1) M (ap (λ w. ltb (c + 1) (frame_ticks w)) (sym b.0) ∙ z) in
       let given : pending D M r.phase (Sending y f c) ≡ level_at f c ∷ [] = pend_last D M r.phase y f c h (ltb-false (r.phase + 1) D e) last in
-      let P : List Bool → Type 0 = λ ls. Flow x D (line ++ ls) r L o.idle in
-      let a = advance line (level_at f c) [] r L o.idle false e (subst P given o.flow) in
+      let a = advance line (level_at f c) [] r L o.idle false e (rw (sym given) o.flow) in
       begin_going (omega arith) tdr cts (held line (level_at f c)) r.log (heard x (leaves line (level_at f c)) r.rx) U a.0 row best row' best'
       (length_held line (level_at f c) ∙ g) u n a.1
       (before_done (frame_cycles x D) a.0 (length (pending D M r.phase (Sending y f c))) row best row' best' (is_full tdr)
       (ap length given) (next_row cts row best row' best' n) o.timing)
 
   pub tick : (tx : Transmitter) (tdr : Option ℕ) (cts : Bool) (line : List Bool) (r : R) (U : Bool → List ℕ) (row best row' best' : ℕ) →
-      r.phase < D → Fits x tx → length line ≡ d → U false ≡ U (is_full tdr) ++ waiting tdr →
+      r.phase < D → Fits x tx → length line ≡ d → U false ≡ U (is_full tdr) ++ option_to_list tdr →
       ltb (r.phase + 1) D ≡ false → Next cts row best row' best' →
       Motion x d D tx (is_full tdr) line r (map (sent_as x) (U (is_full tdr))) row best →
       Going x d D (sent x false cts (record { tdr = tdr; transmitter = tx })) (held line (level tx)) (turn_r x (leaves line (level tx)) r false) U row' best'

@@ -1,8 +1,11 @@
 -- One direction of a board keeps its invariant, and what the invariant says of the words.
-use Rattle.std.proofs.Common.{◌≡◌, ℕ, ◌+◌, ◌*◌, ◌<◌, ◌≤◌, Bool, true, false, cond, ltb, List, [], ◌∷◌, ◌++◌, map, length, replicate, Some, None, Option, sym, refl, ap, ◌∙◌, subst, inl, inr, append_assoc, append-nil, mul-le-mul_right, mul_assoc, one-mul, arith, length-append}
-use lib.ListN.{length-replicate}
-use Rattle.std.proofs.lemmas.List.{map-append, nil_from_length}
+use Rattle.std.proofs.Common.{◌≡◌, ℕ, ◌+◌, ◌*◌, ◌<◌, ◌≤◌, Bool, true, false, cond, ltb, List, [], ◌∷◌, ◌++◌, map, length, get_or, replicate, Some, None, Option, sym, refl, ap, ◌∙◌, subst, inl, inr, append_assoc, append-nil, mul_assoc, arith, length-append}
+use lib.ListN.{length-replicate, get_or-map}
+use lib.Seq.{get_or-append_seam}
+use mathlib.Core.List.{map-map}
+use Rattle.std.proofs.lemmas.List.{map-append, map_push, nil_from_length}
 use Rattle.std.proofs.lemmas.Bool.{ltb-true, true≢false}
+use Rattle.std.specs.Option.{option_to_list}
 use Rattle.terms.specs.declared.report.Report.{Report}
 use Rattle.serial.specs.declared.format.Format.{Format}
 use Rattle.serial.specs.declared.receiver.Receiver.{Receiver}
@@ -13,18 +16,16 @@ use Rattle.serial.specs.declared.transmitter.Transmitter.TheVariants.{Resting, S
 use Rattle.serial.specs.Format.{frame_bits, cut}
 use Rattle.serial.specs.Receiver.{heard}
 use Rattle.serial.specs.Transmitter.{frame_ticks}
-use Rattle.serial.proofs.Formats.{frame_bounds}
 use Rattle.channel.specs.declared.sender.Sender.{Sender}
 use Rattle.channel.specs.declared.receiving.Receiving.{Receiving}
 use Rattle.channel.specs.Sender.{filled, sent}
-use Rattle.channel.specs.Receiving.{emptied, with_receiver, passed_by, overrun, kept as kept_by, ending, perhaps_ending}
-use Rattle.line.specs.Line.{held, length_held}
+use Rattle.channel.specs.Receiving.{emptied, with_receiver, passed_by, overrun, kept as kept_by, perhaps_ending}
+use Rattle.line.specs.Line.{length_held}
 use Rattle.link.specs.Link.{Link, given, taken, idled, ticked_on, link_cycle}
 use Rattle.link.specs.Past.{Past, nothing_yet, arrived_of, kept_of, words_of, only, row_after, longest_after, past_cycle, past_write, past_read}
-use Rattle.link.proofs.Runs.{R, outs, run, run_log}
-use Rattle.link.proofs.Flow.{Flow}
+use Rattle.link.proofs.Runs.{R, at, run, run_log}
 use Rattle.link.proofs.Pending.{pending, pend_most}
-use Rattle.link.proofs.Motion.{frame_cycles, Fits, is_full, waiting, sent_as, Timing, Going, Next}
+use Rattle.link.proofs.Motion.{frame_cycles, frame_time, Fits, is_full, sent_as, Timing, Going, Next}
 use Rattle.link.proofs.Cycles.{mid, tick}
 
 -- no flag of a bad frame, and awake
@@ -38,7 +39,7 @@ abbrev pub words : List Received → List ℕ
 words rs = map (λ r. r.word) rs
 
 abbrev seen_by : Link → List Received → R
-seen_by k log = record { phase = k.phase; rx = k.receiving.receiver; log = log }
+seen_by k log = at k.phase log k.receiving.receiver
 
 pub record LinkInv (x : Format) (d D : ℕ) (k : Link) (p : Past) : Type 0 where
   pub log : List Received
@@ -51,29 +52,31 @@ next : (cts : Bool) (row longest : ℕ) → Next cts row longest (row_after cts 
 next true row longest = (refl, refl)
 next false row longest = (refl, refl)
 
+words_sent : (x : Format) (vs : List ℕ) → words (map (sent_as x) vs) ≡ map (cut x) vs
+words_sent x vs = map-map (λ r. r.word) (sent_as x) vs
+
 -- a log that begins the frames of the words
 begins : (x : Format) (log more : List Received) (vs : List ℕ) → log ++ more ≡ map (sent_as x) vs → (rest : List ℕ) × (words log ++ rest ≡ map (cut x) vs)
-begins x [] more vs e = (map (cut x) vs, refl)
-begins x (r ∷ log) more [] e = absurd (let z : ◌≡◌ {A = ℕ} 0 1 = cc in omega arith)
-begins x (r ∷ log) more (v ∷ vs) e =
-    let first : r ≡ sent_as x v = cc in
-    let others : log ++ more ≡ map (sent_as x) vs = cc in
-    let b = begins x log more vs others in
-    (b.0, ap (λ z. z ∷ (words log ++ b.0)) (ap (λ z. z.word) first) ∙ ap (λ z. cut x v ∷ z) b.1)
+begins x log more vs e = (words more, sym (map-append (λ r. r.word) log more) ∙ ap words e ∙ words_sent x vs)
 
 -- the last of such a log is the frame of a word
 last_sent : (x : Format) (log : List Received) (r : Received) (more : List Received) (vs : List ℕ) → (log ++ (r ∷ [])) ++ more ≡ map (sent_as x) vs → (v : ℕ) × (r ≡ sent_as x v)
-last_sent x [] r more [] e = absurd (let z : ◌≡◌ {A = ℕ} 0 1 = cc in omega arith)
-last_sent x [] r more (v ∷ vs) e = let first : r ≡ sent_as x v = cc in (v, first)
-last_sent x (q ∷ log) r more [] e = absurd (let z : ◌≡◌ {A = ℕ} 0 1 = cc in omega arith)
-last_sent x (q ∷ log) r more (v ∷ vs) e = let others : (log ++ (r ∷ [])) ++ more ≡ map (sent_as x) vs = cc in last_sent x log r more vs others
+last_sent x log r more vs e =
+    let n : ℕ = length log in
+    let d : Received = sent_as x 0 in (
+      get_or vs n 0,
+      sym (get_or-append_seam log r more d) ∙ ap (λ z. get_or z n d) (sym (append_assoc log (r ∷ []) more) ∙ e) ∙ get_or-map (sent_as x) vs n 0,
+    )
 
 -- the end of a clean frame: it is kept, or lost where RDRF is set
 pub record Ended (log : List Received) (frame : Option Received) (r : Receiving) (p : Past) (e : Option Report × Receiving) : Type 0 where
   pub receiver : e.1.receiver ≡ r.receiver
-  pub arrivals : p.arrived ++ words_of arrived_of e.0 ≡ words (log ++ outs frame)
+  pub arrivals : p.arrived ++ words_of arrived_of e.0 ≡ words (log ++ option_to_list frame)
   pub clean : Clean e.1
   pub reads : p.fresh ++ only e.1.rdrf e.1.rdr ≡ p.kept ++ words_of kept_of e.0
+
+word_arrives : (log : List Received) (f : Received) (ws : List ℕ) → ws ≡ words log → ws ++ (f.word ∷ []) ≡ words (log ++ (f ∷ []))
+word_arrives log f ws e = ap (λ z. z ++ (f.word ∷ [])) e ∙ sym (map_push (λ z. z.word) log f)
 
 ended_clean : (x : Format) (v : ℕ) (log : List Received) (r : Receiving) (p : Past) → Clean r → p.arrived ≡ words log → p.fresh ++ only r.rdrf r.rdr ≡ p.kept →
     (asleep rdrf : Bool) → r.asleep ≡ asleep → r.rdrf ≡ rdrf → let f : Received = sent_as x v in
@@ -81,13 +84,13 @@ ended_clean : (x : Format) (v : ℕ) (log : List Received) (r : Receiving) (p : 
 ended_clean x v log r p c a h true rdrf e g = absurd (true≢false (sym e ∙ c.awake))
 ended_clean x v log r p c a h false true e g = record {
   receiver = refl;
-  arrivals = ap (λ z. z ++ (cut x v ∷ [])) a ∙ sym (map-append (λ z. z.word) log (sent_as x v ∷ []));
+  arrivals = word_arrives log (sent_as x v) p.arrived a;
   clean = record { par = c.par; fe = c.fe; brk = c.brk; awake = c.awake };
   reads = h ∙ sym (append-nil p.kept);
 }
 ended_clean x v log r p c a h false false e g = record {
   receiver = refl;
-  arrivals = ap (λ z. z ++ (cut x v ∷ [])) a ∙ sym (map-append (λ z. z.word) log (sent_as x v ∷ []));
+  arrivals = word_arrives log (sent_as x v) p.arrived a;
   clean = record { par = refl; fe = refl; brk = c.brk; awake = c.awake };
   reads = ap (λ z. z ++ (cut x v ∷ [])) (sym (append-nil p.fresh) ∙ ap (λ b. p.fresh ++ only b r.rdr) (sym g) ∙ h);
 }
@@ -95,7 +98,7 @@ ended_clean x v log r p c a h false false e g = record {
 -- what a tick of the receiver gives, where every frame that has ended is the frame of a word
 ended_by : (x : Format) (log more : List Received) (vs : List ℕ) (frame : Option Received) (r : Receiving) (p : Past) →
     Clean r → p.arrived ≡ words log → p.fresh ++ only r.rdrf r.rdr ≡ p.kept →
-    (log ++ outs frame) ++ more ≡ map (sent_as x) vs → Ended log frame r p (perhaps_ending frame 0 false r)
+    (log ++ option_to_list frame) ++ more ≡ map (sent_as x) vs → Ended log frame r p (perhaps_ending frame 0 false r)
 ended_by x log more vs None r p c a h e = record {
   receiver = refl;
   arrivals = append-nil p.arrived ∙ a ∙ ap words (sym (append-nil log));
@@ -104,8 +107,7 @@ ended_by x log more vs None r p c a h e = record {
 }
 ended_by x log more vs (Some f) r p c a h e =
     let l = last_sent x log f more vs e in
-    let P : Received → Type 0 = λ z. Ended log (Some z) r p (ending z 0 false r) in
-    subst P (sym l.1) (ended_clean x l.0 log r p c a h r.asleep r.rdrf refl refl)
+    rw l.1 (ended_clean x l.0 log r p c a h r.asleep r.rdrf refl refl)
 
 module _ (x : Format) (d D : ℕ) where
   -- a cycle that is no tick
@@ -141,15 +143,13 @@ module _ (x : Format) (d D : ℕ) where
       g.phase_low g.fits g.line_size g.queue e (next k.cts p.row p.longest) g.motion in
       let sender : Sender = sent x false k.cts s in
       let f = went.motion.flow in
-      let rest = run_log x D f.body (record { phase = 0; rx = t.1; log = i.log ++ outs t.0 }) in
+      let rest = run_log x D f.body (at 0 (i.log ++ option_to_list t.0) t.1) in
       let old = i.clean in
       let same : Clean r = record { par = old.par; fe = old.fe; brk = old.brk; awake = old.awake } in
       let h = ended_by x i.log rest.0 (p.unreplaced (is_full sender.tdr)) t.0 r p same i.arrivals i.reads (rest.1 ∙ f.log) in
-      let P : Receiver → Type 0 = λ v. Going x d D sender (held k.line (given k)) (record { phase = 0; rx = v; log = i.log ++ outs t.0 }) p.unreplaced
-      (row_after k.cts p.row) (longest_after k.cts p.row p.longest) in
       record {
-        log = i.log ++ outs t.0;
-        going = subst P (sym h.receiver) went;
+        log = i.log ++ option_to_list t.0;
+        going = rw h.receiver went;
         arrivals = h.arrivals;
         clean = h.clean;
         reads = h.reads;
@@ -166,15 +166,9 @@ module _ (x : Format) (d D : ℕ) where
 -- a word was just written: two frames suffice
 fresh_timing : (x : Format) (d D φ : ℕ) (tx : Transmitter) (i : ℕ) → φ < D → Fits x tx →
     Timing (frame_cycles x D) d D φ (length (pending D (frame_ticks x) φ tx)) tx true 0 0 i
-fresh_timing x d D φ Resting i h c =
-    let b = (frame_bounds x).0 in
-    let e : 1 * D ≤ frame_ticks x * D = mul-le-mul_right D (omega arith) in
-    let s = one-mul D in
-    omega arith
+fresh_timing x d D φ Resting i h c = let t = frame_time x D (omega arith) in omega arith
 fresh_timing x d D φ (Sending y f c) i h b =
-    let n = (frame_bounds x).0 in
-    let e : 1 * D ≤ frame_ticks x * D = mul-le-mul_right D (omega arith) in
-    let s = one-mul D in
+    let t = frame_time x D (omega arith) in
     let m = pend_most D (frame_ticks x) φ y f c h b.1 in
     omega arith
 fresh_timing x d D φ (Breaking y c) i h b = absurd b
@@ -188,7 +182,6 @@ module _ (x : Format) (d D : ℕ) where
       let g = i.going in
       let o = g.motion in
       let u : List ℕ = p.unreplaced (is_full s.tdr) in
-      let P : List ℕ → Type 0 = λ z. Flow x D (k.line ++ pending D (frame_ticks x) k.phase s.transmitter) (seen_by k i.log) (map (sent_as x) z) o.idle in
       record {
         log = i.log;
         going = record {
@@ -197,7 +190,7 @@ module _ (x : Format) (d D : ℕ) where
           line_size = g.line_size;
           motion = record {
             idle = o.idle;
-            flow = subst P (sym (append-nil u)) o.flow;
+            flow = rw (append-nil u) o.flow;
             timing = fresh_timing x d D k.phase s.transmitter o.idle g.phase_low g.fits;
           };
           queue = ap (λ z. z ++ (v ∷ [])) (sym (append-nil u));
@@ -230,9 +223,7 @@ pub start_inv : (x : Format) (D : ℕ) (k : Link) → 0 < D → k.phase ≡ 0 �
     LinkInv x (length k.line) D k nothing_yet
 start_inv x D k h phase sender quiet hunts empty clean =
     let d : ℕ = length k.line in
-    let G : ℕ → Sender → Receiver → Type 0 = λ φ s v.
-    Going x d D s k.line (record { phase = φ; rx = v; log = [] }) (λ b. []) 0 0 in
-    let going : G 0 (record { tdr = None; transmitter = Resting }) Hunting = record {
+    let going : Going x d D (record { tdr = None; transmitter = Resting }) k.line (at 0 [] Hunting) (λ b. []) 0 0 = record {
       phase_low = h;
       fits = tt;
       line_size = refl;
@@ -245,16 +236,11 @@ start_inv x D k h phase sender quiet hunts empty clean =
     } in
     record {
       log = [];
-      going = subst (λ (φ : ℕ). G φ k.sender k.receiving.receiver) (sym phase)
-          (subst (λ (s : Sender). G 0 s k.receiving.receiver) (sym sender) (subst (λ (v : Receiver). G 0 (record { tdr = None; transmitter = Resting }) v) (sym hunts) going));
+      going = rw phase (rw sender (rw hunts going));
       arrivals = refl;
       clean = clean;
       reads = ap (λ b. only b k.receiving.rdr) empty;
     }
-
-words_sent : (x : Format) (vs : List ℕ) → words (map (sent_as x) vs) ≡ map (cut x) vs
-words_sent x [] = refl
-words_sent x (v ∷ vs) = ap (λ z. cut x v ∷ z) (words_sent x vs)
 
 two_frames : (z D : ℕ) → 32 * z * D ≡ 2 * (16 * z * D)
 two_frames z D = let a = mul_assoc 32 z D in let b = mul_assoc 16 z D in omega arith
@@ -284,8 +270,8 @@ arrives x d D k p i =
     let r : R = seen_by k i.log in
     let more = run_log x D f.body r in
     let b = begins x i.log more.0 took (more.1 ∙ f.log) in
-    let left : List ℕ = map (cut x) (waiting s.tdr) in
-    let all : map (cut x) (p.unreplaced false) ≡ map (cut x) took ++ left = ap (map (cut x)) g.queue ∙ map-append (cut x) took (waiting s.tdr) in
+    let left : List ℕ = map (cut x) (option_to_list s.tdr) in
+    let all : map (cut x) (p.unreplaced false) ≡ map (cut x) took ++ left = ap (map (cut x)) g.queue ∙ map-append (cut x) took (option_to_list s.tdr) in
     record {
       in_order = (
         b.0 ++ left,

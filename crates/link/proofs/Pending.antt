@@ -1,11 +1,12 @@
 -- The levels that the sender still has to give for the frame under way, one to a cycle. M is the number of ticks of a frame.
-use Rattle.std.proofs.Common.{◌≡◌, ℕ, suc, ◌+◌, ◌-◌, ◌*◌, ◌<◌, ◌≤◌, Bool, List, [], ◌∷◌, ◌++◌, length, replicate, sym, ap, ◌∙◌, mul-le-mul_right, suc-mul, zero-mul, arith, length-append}
+use Rattle.std.proofs.Common.{◌≡◌, ℕ, suc, ◌+◌, ◌-◌, ◌*◌, ◌<◌, ◌≤◌, Bool, List, [], ◌∷◌, ◌++◌, length, replicate, sym, refl, ap, ◌∙◌, mul-le-mul_right, suc-mul, zero-mul, arith, length-append}
 use lib.ListN.{length-replicate}
+use Rattle.std.proofs.lemmas.List.FromFn.{length-map-range_with_len}
 use Rattle.serial.specs.declared.format.Format.{Format}
 use Rattle.serial.specs.declared.transmitter.Transmitter.{Transmitter}
 use Rattle.serial.specs.declared.transmitter.Transmitter.TheVariants.{Resting, Sending, Breaking}
 use Rattle.link.proofs.Runs.{stretch}
-use Rattle.link.proofs.WholeFrame.{level_at, ticks, length_ticks}
+use Rattle.link.proofs.WholeFrame.{level_at, ticks}
 
 abbrev pub pending : ℕ → ℕ → ℕ → Transmitter → List Bool
 pending D M φ Resting = []
@@ -14,12 +15,7 @@ pending D M φ (Breaking y c) = []
 
 length_stretch : (D : ℕ) (ls : List Bool) → length (stretch D ls) ≡ length ls * D
 length_stretch D [] = sym (zero-mul D)
-length_stretch D (l ∷ ls) =
-    let e = length-append (replicate D l) (stretch D ls) in
-    let r = length-replicate D l in
-    let h = length_stretch D ls in
-    let m = suc-mul (length ls) D in
-    omega arith
+length_stretch D (l ∷ ls) = simp (length-append, length-replicate, length_stretch D ls, suc-mul) (omega arith)
 
 module _ (D M φ : ℕ) (y : Format) (f c : ℕ) (low : φ < D) where
   pub pend_mid : φ + 1 < D → pending D M φ (Sending y f c) ≡ level_at f c ∷ pending D M (φ + 1) (Sending y f c)
@@ -46,10 +42,7 @@ module _ (D M φ : ℕ) (y : Format) (f c : ℕ) (low : φ < D) where
 
   -- how many there are
   length_pending : length (pending D M φ (Sending y f c)) ≡ (D - φ) + (M - suc c) * D
-  length_pending =
-      length-append (replicate (D - φ) (level_at f c)) (stretch D (ticks f (c + 1) (M - suc c)))
-      ∙ ap (λ k. k + length (stretch D (ticks f (c + 1) (M - suc c)))) (length-replicate (D - φ) (level_at f c))
-      ∙ ap (λ k. (D - φ) + k) (length_stretch D (ticks f (c + 1) (M - suc c)) ∙ ap (λ k. k * D) (length_ticks f (M - suc c) (c + 1)))
+  length_pending = simp (length-append, length-replicate, length_stretch, length-map-range_with_len) refl
 
   pub pend_some : 1 ≤ length (pending D M φ (Sending y f c))
   pend_some = let e = length_pending in omega arith

@@ -1,11 +1,12 @@
 -- One whole frame, tick by tick, from a hunting receiver: it ends hunting, with exactly one clean frame of the word.
-use Rattle.std.proofs.Common.{◌≡◌, ℕ, zero, suc, ◌+◌, ◌-◌, ◌*◌, ◌/◌, ◌%◌, ◌^◌, ◌<◌, ◌≤◌, Bool, true, false, cond, not, ◌&&◌, eqb, ltb, List, [], ◌∷◌, ◌++◌, length, Some, None, Option, sym, refl, ap, ◌∙◌, append-nil, mod-lt, mod-eq_of_lt, mul_assoc, add-mul, arith, pow_pos, pow-add}
+use Rattle.std.proofs.Common.{◌≡◌, ℕ, zero, suc, ◌+◌, ◌-◌, ◌*◌, ◌/◌, ◌%◌, ◌^◌, ◌<◌, ◌≤◌, Bool, true, false, cond, not, ◌&&◌, eqb, ltb, List, [], ◌∷◌, ◌++◌, map, Some, None, Option, sym, refl, ap, ◌∙◌, append-nil, mod-lt, mod-eq_of_lt, mul_assoc, add-mul, arith, pow_pos, pow-add}
 use native.Mathlib.Nat.{add-mul-mod_self_right}
 use lib.Arith.{digits_div}
 use Rattle.std.proofs.lemmas.Bool.{eq-eqb, ne_eqb, eqb-true, eqb-false, lt-ltb, le-ltb, cond-false, cond-true}
+use Rattle.std.specs.List.{range_with_len}
+use Rattle.std.proofs.lemmas.List.Sums.{fold-append}
 use Rattle.serial.specs.declared.parity.Parity.{Parity}
 use Rattle.serial.specs.declared.format.Format.{Format}
-use Rattle.serial.specs.declared.receiver.Receiver.{Receiver}
 use Rattle.serial.specs.declared.receiver.Receiver.TheVariants.{Hunting}
 use Rattle.serial.specs.declared.receiver.Received.{Received}
 use Rattle.serial.specs.Format.{data_bits, parity_bits, stop_bits, stop_at, frame_bits, cut}
@@ -14,7 +15,7 @@ use Rattle.serial.specs.Receiver.{gathering, with_bit, word_of, parity_in, parit
 use Rattle.serial.proofs.Bits.{low_more, or_above}
 use Rattle.serial.proofs.Formats.{stop_bounds, check_bit_low, cut_low}
 use Rattle.serial.proofs.Frames.{below_stops, low_part, frame_law}
-use Rattle.link.proofs.Runs.{R, after, tick_r, tick_all, tick_all-++}
+use Rattle.link.proofs.Runs.{after, tick_r, tick_all, at}
 
 -- the level of a frame at a count of ticks
 abbrev pub level_at : ℕ → ℕ → Bool
@@ -22,8 +23,7 @@ level_at f c = bit f (c / 16)
 
 -- the levels of m ticks from the count c on
 abbrev pub ticks : ℕ → ℕ → ℕ → List Bool
-ticks f c zero = []
-ticks f c (suc m) = level_at f c ∷ ticks f (c + 1) m
+ticks f c m = map (level_at f) (range_with_len c m)
 
 ticks-++ : (f a b c : ℕ) → ticks f c (a + b) ≡ ticks f c a ++ ticks f (c + a) b
 ticks-++ f zero b c = ap (λ k. ticks f c k) (omega arith) ∙ ap (λ k. ticks f k b) (omega arith)
@@ -33,16 +33,9 @@ ticks-++ f (suc a) b c =
     ∙ ap (λ z. level_at f c ∷ z) (ticks-++ f a b (c + 1))
     ∙ ap (λ k. level_at f c ∷ (ticks f (c + 1) a ++ ticks f k b)) (omega arith)
 
-pub length_ticks : (f m c : ℕ) → length (ticks f c m) ≡ m
-length_ticks f zero c = refl
-length_ticks f (suc m) c = ap suc (length_ticks f m (c + 1))
-
 -- the bits that were sampled up to the count c
 abbrev low_at : ℕ → ℕ → ℕ
 low_at f c = f % 2 ^ ((c + 8) / 16)
-
-abbrev at : ℕ → List Received → Receiver → R
-at φ log rx = record { phase = φ; rx = rx; log = log }
 
 -- a sampled bit joins the low part of the frame
 with_bit_lem : (f k : ℕ) → with_bit (f % 2 ^ k) (bit f k) k ≡ f % 2 ^ suc k
@@ -94,7 +87,7 @@ high_ticks : (x : Format) (f m c φ : ℕ) (log : List Received) → ((j : ℕ) 
     tick_all x (ticks f c m) (at φ log Hunting) ≡ at φ log Hunting
 high_ticks x f zero c φ log h = refl
 high_ticks x f (suc m) c φ log h =
-    ap (λ l. tick_all x (ticks f (c + 1) m) (tick_r x l (at φ log Hunting))) (h c (omega arith) (omega arith))
+    ap (λ l. tick_all x (ticks f (c + 1) m) (tick_r x (at φ log Hunting) l)) (h c (omega arith) (omega arith))
     ∙ ap (λ z. tick_all x (ticks f (c + 1) m) (at φ z Hunting)) (append-nil log)
     ∙ high_ticks x f m (c + 1) φ log (λ j a b. h j (omega arith) (omega arith))
 
@@ -189,10 +182,10 @@ whole_frame x v φ log =
     let zeroed : at φ (log ++ []) (gathering x 0 0) ≡ at φ log (gathering x 0 (low_at f 0)) =
     ap (λ z. at φ z (gathering x 0 0)) (append-nil log) ∙ ap (λ z. at φ log (gathering x 0 z)) (omega arith) in
     ap (λ m. tick_all x (ticks f 0 m) (at φ log Hunting)) parts
-    ∙ ap (λ l. tick_all x (ticks f (0 + 1) (a + suc b)) (tick_r x l (at φ log Hunting))) law.start_low
+    ∙ ap (λ l. tick_all x (ticks f (0 + 1) (a + suc b)) (tick_r x (at φ log Hunting) l)) law.start_low
     ∙ ap (λ r. tick_all x (ticks f (0 + 1) (a + suc b)) r) zeroed
     ∙ ap (λ ls. tick_all x ls (at φ log (gathering x 0 (low_at f 0)))) (ticks-++ f a (suc b) (0 + 1))
-    ∙ tick_all-++ x (ticks f (0 + 1) a) (ticks f ((0 + 1) + a) (suc b)) (at φ log (gathering x 0 (low_at f 0)))
+    ∙ fold-append (tick_r x) (at φ log (gathering x 0 (low_at f 0))) (ticks f (0 + 1) a) (ticks f ((0 + 1) + a) (suc b))
     ∙ ap (λ r. tick_all x (ticks f ((0 + 1) + a) (suc b)) r) (gather_run x f law.start_low a 0 φ log (omega arith))
     ∙ ap (λ c. tick_all x (ticks f c (suc b)) (at φ log (gathering x (0 + a) (low_at f (0 + a))))) one
     ∙ ap (λ c. tick_all x (ticks f (a + 1) (suc b)) (at φ log (gathering x c (low_at f c)))) nought

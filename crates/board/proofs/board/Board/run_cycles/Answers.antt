@@ -1,5 +1,5 @@
-use Rattle.std.proofs.Common.{◌≡◌, ℕ, ◌+◌, ◌-◌, subst, arith}
-use Rattle.board.proofs.Sweeps.{Sweeping, sweeping_none, sweeping_next, sweeping_all}
+use Rattle.std.proofs.Common.{◌+◌, ◌-◌, arith, refl}
+use Rattle.board.proofs.Sweeps.{sweeping_none, sweeping_more, sweeping_all}
 use Rattle.board.proofs.board.Board.run_cycles.Goals as goal
 
 pub loop-cycle-init : goal.loop-cycle-init
@@ -8,25 +8,15 @@ loop-cycle-init g c = (omega arith, sweeping_none _ _)
 pub loop-cycle-preserved : goal.loop-cycle-preserved
 loop-cycle-preserved g c =
     let l = c.loop-cycle in
-    let r = c.record_cycle-written in
-    let next = sweeping_next l.cycle c.args.self.now c.args.records.now l.self l.records l.written (omega arith) l.invariant.1 (omega arith)
-    _ r.new.records r.result r.ensures.leaves r.ensures.counts r.ensures.writes in
-    let same : l.cycle ≡ l.cycle + 1 - 1 = omega arith in
-    (omega arith, subst (λ (m : ℕ). Sweeping m c.args.self.now c.args.records.now r.new.self r.new.records r.result) same next)
+    let e = c.record_cycle-written.ensures in
+    (omega arith, sweeping_more (l.cycle - 1) l.cycle (l.cycle + 1 - 1) (omega arith) (omega arith) l.invariant.1 (omega arith) e.leaves e.counts e.writes)
 
-pub returns : goal.returns
-returns g c =
-    let l = c.loop-cycle in
-    let all : l.cycle - 1 ≡ c.args.k = omega arith in
-    let done = subst (λ (m : ℕ). Sweeping m c.args.self.now c.args.records.now l.self l.records l.written) all l.invariant.1 in
-    record { writes = sweeping_all _ _ _ _ _ _ done; leaves = done.moved }
+pub returns-clause-writes : goal.returns-clause-writes
+returns-clause-writes g c = let l = c.loop-cycle in sweeping_all (l.cycle - 1) c.args.k (omega arith) l.invariant.1
 
 pub returns-2 : goal.returns-2
 returns-2 g c =
     let l = c.loop-cycle in
-    let r = c.record_cycle-written in
-    let next = sweeping_next l.cycle c.args.self.now c.args.records.now l.self l.records l.written (omega arith) l.invariant.1 (omega arith)
-    _ r.new.records r.result r.ensures.leaves r.ensures.counts r.ensures.writes in
-    let all : l.cycle ≡ c.args.k = omega arith in
-    let done = subst (λ (m : ℕ). Sweeping m c.args.self.now c.args.records.now r.new.self r.new.records r.result) all next in
-    record { writes = sweeping_all _ _ _ _ _ _ done; leaves = done.moved }
+    let e = c.record_cycle-written.ensures in
+    let done = sweeping_more (l.cycle - 1) l.cycle c.args.k (omega arith) (omega arith) l.invariant.1 (omega arith) e.leaves e.counts e.writes in
+    record { writes = sweeping_all c.args.k c.args.k refl done; leaves = done.moved }
