@@ -110,16 +110,6 @@ impl<A: Line, B: Line> Board<A, B> {
         ensures leaves { self.new ≡ after_set_up result cr fr self.old }
         ensures delivery { is_ok result ≡ true → Delivers cr fr self.new }
     {
-        self.try_set_up(cr, fr)
-    }
-
-    // Apart from `set_up`, which promises delivery besides. That is proved from the clauses here and names no step of the code, so that a
-    // wrong step is refused by the clause which it breaks, and not by a proof that no longer fits.
-    fn try_set_up(&mut self, cr: u8, fr: u8) -> Result<(), Refusal>
-        ensures answers { result ≡ set_up_answer cr fr self.old }
-        ensures refusals { refused_by result ≡ set_up_by cr fr self.old }
-        ensures leaves { self.new ≡ after_set_up result cr fr self.old }
-    {
         if bad_control(cr) {
             return Err(Refusal::BadControl);
         }
