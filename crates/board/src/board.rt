@@ -45,7 +45,7 @@ fn bad_control(cr: u8) -> bool
 fn sweep_allowed(k: u16, room: usize) -> Result<(), Refusal>
     ensures { refused_by result ≡ sweep_by k room }
 {
-    if k == 0 || k > MOST_CYCLES {
+    if !(1..=MOST_CYCLES).contains(&k) {
         return Err(Refusal::BadSweepLength);
     }
     if room < 2 * usize::from(k) {

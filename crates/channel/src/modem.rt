@@ -21,7 +21,7 @@ impl ModemInput {
     }
 }
 
-// Three fields and no array by the line: the three arms below would then be those that give a line's place.
+// Three fields and no array by the line: a channel asks for each input by its name, and only a new level comes with the line as a value.
 #[derive(Clone, Copy, Default)]
 pub struct Modem {
     pub(crate) cts: ModemInput,

@@ -19,7 +19,8 @@ pub struct Errors {
     pub(crate) brk: bool,
 }
 
-// RDRF is a flag beside RDR, which keeps its word when it was read; and `asleep` one beside CDR, which keeps its byte when the sleep is over.
+// RDRF is a flag beside RDR, which keeps its word when it was read; and `asleep` is one beside CDR, which is a register of its own: a reset
+// wakes the receiver and leaves CDR.
 #[derive(Clone, Copy)]
 pub struct Receiving {
     pub(crate) rdr: u8,

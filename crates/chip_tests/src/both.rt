@@ -129,7 +129,7 @@ fn done(act: Option<Act>, chip: &mut Chip, channel: ChannelId) -> Option<Outcome
 }
 
 // Two chips get the same on one channel, and the second one gets more on the other: the first channel answers the same.
-fn keeps_to_itself(rt: &impl Abort, channel: ChannelId, other: ChannelId) -> Result<(), Fail> {
+fn keeps_to_itself(rt: &impl Abort, channel: ChannelId) -> Result<(), Fail> {
     let mut dice = Dice { state: 65 };
     let mut quiet = PoweredChip::power_on().reset();
     let mut busy = PoweredChip::power_on().reset();
@@ -142,7 +142,7 @@ fn keeps_to_itself(rt: &impl Abort, channel: ChannelId, other: ChannelId) -> Res
             "{}",
             cycle
         );
-        done(thrown(&mut dice), &mut busy, other);
+        done(thrown(&mut dice), &mut busy, channel.other());
         if dice.byte() < 16 {
             level = !level;
         }
@@ -159,8 +159,10 @@ fn keeps_to_itself(rt: &impl Abort, channel: ChannelId, other: ChannelId) -> Res
 
 #[test]
 fn the_channels_keep_apart(rt: HostRuntime) -> Result<(), Fail> {
-    keeps_to_itself(&rt, ChannelId::One, ChannelId::Two)?;
-    keeps_to_itself(&rt, ChannelId::Two, ChannelId::One)
+    for channel in ChannelId::BOTH {
+        keeps_to_itself(&rt, channel)?;
+    }
+    Ok(())
 }
 
 #[test]

@@ -291,7 +291,7 @@ impl Bench {
         println!(rt; "After {} cycles:", self.log.cycle)?;
         for from in ChannelId::BOTH {
             let told = self.log.told.at(from);
-            told.sent.tell(rt, from, from.other())?;
+            told.sent.tell(rt, from)?;
         }
         Ok(())
     }

@@ -91,7 +91,7 @@ impl Tally {
         Ok(())
     }
 
-    pub(crate) fn tell(&self, rt: &HostRuntime, from: ChannelId, to: ChannelId) -> io::Result<()> {
+    pub(crate) fn tell(&self, rt: &HostRuntime, from: ChannelId) -> io::Result<()> {
         let Counts {
             written,
             replaced,
@@ -102,7 +102,7 @@ impl Tally {
         println!(rt;
             "From {} to {}: {written} words written, {replaced} replaced, {kept} kept, {lost} lost, {read} read: \"{}\".",
             from.number(),
-            to.number(),
+            from.other().number(),
             self.text.as_str()
         )
     }

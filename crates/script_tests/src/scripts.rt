@@ -121,7 +121,7 @@ fn lines_that_are_refused_by_9(rt: HostRuntime) -> Result<(), Fail> {
     Ok(())
 }
 
-// The same in the longer commands, as a test of its own, so that its name says which lines were read wrongly.
+// The same in the longer commands: a test of its own, as a line that is read wrongly ends its test and hides those after it.
 #[test]
 fn longer_lines_that_are_refused_by_9(rt: HostRuntime) -> Result<(), Fail> {
     for (text, line, column) in [

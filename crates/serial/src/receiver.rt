@@ -5,6 +5,7 @@ ghost use Rattle.serial.specs.Receiver.{new_gathering, grown, word_of, parity_of
 use crate::format::{Format, bit_at};
 
 // A frame under way: the format that it began with, the ticks since then, and the bits that were gathered.
+// The definitions take the three one by one, as the word, the parity bit and the end of a frame are those of any count.
 #[derive(Clone, Copy)]
 pub struct Gathering {
     pub format: Format,

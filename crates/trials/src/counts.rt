@@ -145,7 +145,7 @@ impl Counts {
         self.see(Event::ShownParityZero, kept && shows && !parity);
     }
 
-    // Counts a call: its answer, and the states before it and after it.
+    // Counts a call: its answer, and the states before it and after it. A call is a case and no closure, as where it is played.
     pub(crate) fn call(&mut self, call: Call, answer: Option<Answer>, steps: Channels<Step>) {
         let either = steps.one.was.union(steps.two.was);
         if let Some(refusal) = answer.and_then(Answer::refusal) {
