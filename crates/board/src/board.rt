@@ -18,6 +18,7 @@ use terms::modem_line::ModemLine;
 use terms::note::{Reading, WriteNote};
 use terms::refusal::Refusal;
 
+// It has no model, since that would ask for `A: Line, B: Line` wherever the type is named: the contracts say what it stands for by `state`.
 #[derive(Drop)]
 pub struct Board<A, B> {
     chip: Chip,

@@ -60,6 +60,7 @@ impl PoweredChip {
     }
 }
 
+// Accesses are inlined, so that a select that is known where the call stands costs nothing to look up.
 impl Chip {
     pub fn reset(&mut self)
         ensures { self.new ≡ chip_reset self.old }

@@ -19,7 +19,7 @@ pub enum Source {
 pub struct Sources([bool; 7]);
 
 impl Sources {
-    // The sources that pass a test.
+    // The sources that pass a test. They are written out, as a `map` over a list of them took a quarter longer.
     pub(crate) fn that<F: Fn(Source) -> bool>(test: F) -> Sources
         requires { F.IsAlwaysCallable test }
     {
