@@ -58,10 +58,10 @@ pub record Part : Type 0 where
   pub sender : Sender
   pub receiving : Receiving
 
-abbrev part : Channel → Part
+abbrev pub part : Channel → Part
 part c = record { control = c.control; count = c.count; level = c.modem.cts.level; sender = c.sender; receiving = c.receiving }
 
-abbrev Still : (Channel → Channel) → Type 0
+abbrev pub Still : (Channel → Channel) → Type 0
 Still f = (c : Channel) → part (f c) ≡ part c
 
 module _ (cr fr D : ℕ) (dv : divisor (rate_code cr) ≡ Some D) (d : ChannelId → ℕ) where

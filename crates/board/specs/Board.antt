@@ -9,12 +9,16 @@ use Rattle.dacia.specs.declared.chip.Chip.{Chip}
 use Rattle.dacia.specs.declared.chip.Inputs.{Inputs}
 use Rattle.dacia.specs.Chip.{ChipAnswer, newly_reset, chip_cycled, after_read_once, after_write_once}
 use Rattle.line.specs.Line.{leaves, held, all_high}
+use Rattle.board.specs.declared.board.Board.{Board}
 
 -- what a board stands for: its chip, and the levels that its lines hold
 pub record State : Type 0 where
   pub chip : Chip
   pub a : List Bool
   pub b : List Bool
+
+abbrev pub state : {A B : Type 0} → (A → List Bool) → (B → List Bool) → Board A B → State
+state f h s = record { chip = s.chip; a = f s.a; b = h s.b }
 
 abbrev pub with_chip : Chip → State → State
 with_chip c s = record s { chip = c }

@@ -3,7 +3,7 @@ ghost use Rattle.std.specs.Prelude.{◌≡◌, ◌+◌, ◌*◌, ◌<◌, ◌≤
 ghost use Rattle.terms.specs.Refusal.{refused_by};
 ghost use Rattle.channel.specs.Channel.{irq_of};
 ghost use Rattle.dacia.specs.Chip.{channel_of, newly_reset, read_ended, after_read_ended, write_ended, after_write_ended, read_once, after_read_once, write_once, after_write_once, modem_on};
-ghost use Rattle.board.specs.Board.{State, with_chip, cycle_answer, after_cycle, bad_control, lines_quiet, set_up_answer, set_up_by, set_up_chip, after_set_up};
+ghost use Rattle.board.specs.Board.{state, with_chip, cycle_answer, after_cycle, bad_control, lines_quiet, set_up_answer, set_up_by, set_up_chip, after_set_up};
 ghost use Rattle.board.specs.Delivery.{Delivers};
 ghost use Rattle.board.specs.Sweep.{cycles, sweep_by, Wrote, Swept, after_sweep, next_place, both_placed};
 
@@ -12,25 +12,18 @@ use channel::channel::Marks;
 use dacia::access::{ReadAccess, WriteAccess};
 use dacia::chip::{Chip, ChipAnswer, Inputs, PoweredChip};
 use line::line::Line;
-use std::marker::Model;
 use terms::channel_id::ChannelId;
 use terms::channels::Channels;
 use terms::modem_line::ModemLine;
 use terms::note::{Reading, WriteNote};
 use terms::refusal::Refusal;
 
+// It has no model, since that would ask for `A: Line, B: Line` wherever the type is named: the contracts say what it stands for by `state`.
 #[derive(Drop)]
-pub struct Board<A: Line, B: Line> {
+pub struct Board<A, B> {
     chip: Chip,
     a: A,
     b: B,
-}
-
-// What a board stands for: its chip, and the levels that its lines hold.
-impl<A: Line, B: Line> Model for Board<A, B> {
-    ghost Value = { State };
-
-    ghost view = { λ s. record { chip = s.chip; a = A.levels s.a; b = B.levels s.b } };
 }
 
 const MOST_CYCLES: u16 = 2048;
@@ -72,7 +65,7 @@ fn set_up_chip(cr: u8, fr: u8) -> Result<Chip, Refusal>
 impl<A: Line, B: Line> Board<A, B> {
     // A board with a newly reset chip.
     pub fn new(a: A, b: B) -> Board<A, B>
-        ensures { result ≡ record { chip = newly_reset; a = A.Line.levels a; b = B.Line.levels b } }
+        ensures { state A.Line.levels B.Line.levels result ≡ record { chip = newly_reset; a = A.Line.levels a; b = B.Line.levels b } }
     {
         Board {
             chip: PoweredChip::power_on().reset(),
@@ -83,8 +76,8 @@ impl<A: Line, B: Line> Board<A, B> {
 
     // One cycle: the lines take TxD and answer RxD, then the chip takes a cycle without RxC and TxC.
     pub fn cycle(&mut self) -> ChipAnswer
-        ensures answers { result ≡ cycle_answer self.old }
-        ensures leaves { self.new ≡ after_cycle self.old }
+        ensures answers { result ≡ cycle_answer (state A.Line.levels B.Line.levels self.old) }
+        ensures leaves { state A.Line.levels B.Line.levels self.new ≡ after_cycle (state A.Line.levels B.Line.levels self.old) }
     {
         let txd1 = self.chip.txd(ChannelId::One);
         let txd2 = self.chip.txd(ChannelId::Two);
@@ -105,10 +98,10 @@ impl<A: Line, B: Line> Board<A, B> {
     // Sets the board up: a reset chip with both values, CR and FR, written to both channels, and both RDRs read.
     // From here on no list of reads, IER and TDR writes, modem levels, cycles and sweeps loses, alters or reorders a word.
     pub fn set_up(&mut self, cr: u8, fr: u8) -> Result<(), Refusal>
-        ensures answers { result ≡ set_up_answer cr fr self.old }
-        ensures refusals { refused_by result ≡ set_up_by cr fr self.old }
-        ensures leaves { self.new ≡ after_set_up result cr fr self.old }
-        ensures delivery { is_ok result ≡ true → Delivers cr fr self.new }
+        ensures answers { result ≡ set_up_answer cr fr (state A.Line.levels B.Line.levels self.old) }
+        ensures refusals { refused_by result ≡ set_up_by cr fr (state A.Line.levels B.Line.levels self.old) }
+        ensures leaves { state A.Line.levels B.Line.levels self.new ≡ after_set_up result cr fr (state A.Line.levels B.Line.levels self.old) }
+        ensures delivery { is_ok result ≡ true → Delivers cr fr (state A.Line.levels B.Line.levels self.new) }
     {
         if bad_control(cr) {
             return Err(Refusal::BadControl);
@@ -124,7 +117,7 @@ impl<A: Line, B: Line> Board<A, B> {
     }
 
     fn lines_quiet(&self) -> bool
-        ensures { result ≡ lines_quiet self.now }
+        ensures { result ≡ lines_quiet (state A.Line.levels B.Line.levels self.now) }
     {
         self.a.is_quiet() && self.b.is_quiet()
     }
@@ -132,8 +125,8 @@ impl<A: Line, B: Line> Board<A, B> {
     // `k` cycles, whose reports but none are written into the first of the records; answers how many it wrote.
     pub fn sweep(&mut self, k: u16, records: &mut [Record]) -> Result<usize, Refusal>
         ensures refusals { refused_by result ≡ sweep_by k (length records.old) }
-        ensures writes { Swept k self.old records.old result records.new }
-        ensures leaves { self.new ≡ after_sweep result k self.old }
+        ensures writes { Swept k (state A.Line.levels B.Line.levels self.old) records.old result records.new }
+        ensures leaves { state A.Line.levels B.Line.levels self.new ≡ after_sweep result k (state A.Line.levels B.Line.levels self.old) }
     {
         sweep_allowed(k, records.len())?;
         Ok(self.run_cycles(k, records))
@@ -142,8 +135,8 @@ impl<A: Line, B: Line> Board<A, B> {
     // The cycles of a sweep.
     fn run_cycles(&mut self, k: u16, records: &mut [Record]) -> usize
         requires { 2 * k ≤ length records.old }
-        ensures writes { Wrote k self.old records.old result records.new }
-        ensures leaves { self.new ≡ cycles k self.old }
+        ensures writes { Wrote k (state A.Line.levels B.Line.levels self.old) records.old result records.new }
+        ensures leaves { state A.Line.levels B.Line.levels self.new ≡ cycles k (state A.Line.levels B.Line.levels self.old) }
     {
         let mut written = 0;
         for cycle in 1..=k {
@@ -155,9 +148,9 @@ impl<A: Line, B: Line> Board<A, B> {
     // One cycle of a sweep, whose records are put at a place; answers the next place.
     fn record_cycle(&mut self, cycle: u16, at: usize, records: &mut [Record]) -> usize
         requires { at + 1 < length records.old }
-        ensures counts { result ≡ next_place at cycle (cycle_answer self.old) }
-        ensures writes { records.new ≡ both_placed records.old at cycle (cycle_answer self.old) }
-        ensures leaves { self.new ≡ after_cycle self.old }
+        ensures counts { result ≡ next_place at cycle (cycle_answer (state A.Line.levels B.Line.levels self.old)) }
+        ensures writes { records.new ≡ both_placed records.old at cycle (cycle_answer (state A.Line.levels B.Line.levels self.old)) }
+        ensures leaves { state A.Line.levels B.Line.levels self.new ≡ after_cycle (state A.Line.levels B.Line.levels self.old) }
     {
         let answer = self.cycle();
         let next = put(records, at, cycle, ChannelId::One, answer.one.report);
@@ -169,7 +162,7 @@ impl<A: Line, B: Line> Board<A, B> {
     // Ends a read on the board's chip.
     pub fn end_read(&mut self, access: ReadAccess) -> Result<Reading, Refusal>
         ensures answers { result ≡ read_ended access self.old.chip }
-        ensures leaves { self.new ≡ with_chip (after_read_ended access self.old.chip) self.old }
+        ensures leaves { state A.Line.levels B.Line.levels self.new ≡ with_chip (after_read_ended access self.old.chip) (state A.Line.levels B.Line.levels self.old) }
     {
         self.chip.end_read(access)
     }
@@ -177,7 +170,7 @@ impl<A: Line, B: Line> Board<A, B> {
     // Ends a write on the board's chip.
     pub fn end_write(&mut self, access: WriteAccess, byte: u8) -> Option<WriteNote>
         ensures answers { result ≡ write_ended access self.old.chip }
-        ensures leaves { self.new ≡ with_chip (after_write_ended access byte self.old.chip) self.old }
+        ensures leaves { state A.Line.levels B.Line.levels self.new ≡ with_chip (after_write_ended access byte self.old.chip) (state A.Line.levels B.Line.levels self.old) }
     {
         self.chip.end_write(access, byte)
     }
@@ -185,7 +178,7 @@ impl<A: Line, B: Line> Board<A, B> {
     // A read that is opened and ended with nothing between.
     pub fn read(&mut self, select: u8) -> Result<Reading, Refusal>
         ensures answers { result ≡ read_once select self.old.chip }
-        ensures leaves { self.new ≡ with_chip (after_read_once select self.old.chip) self.old }
+        ensures leaves { state A.Line.levels B.Line.levels self.new ≡ with_chip (after_read_once select self.old.chip) (state A.Line.levels B.Line.levels self.old) }
     {
         self.chip.read(select)
     }
@@ -193,14 +186,14 @@ impl<A: Line, B: Line> Board<A, B> {
     // A write that is opened and ended with nothing between.
     pub fn write(&mut self, select: u8, byte: u8) -> Result<Option<WriteNote>, Refusal>
         ensures answers { result ≡ write_once select self.old.chip }
-        ensures leaves { self.new ≡ with_chip (after_write_once select byte self.old.chip) self.old }
+        ensures leaves { state A.Line.levels B.Line.levels self.new ≡ with_chip (after_write_once select byte self.old.chip) (state A.Line.levels B.Line.levels self.old) }
     {
         self.chip.write(select, byte)
     }
 
     // A level on a modem input of the board's chip.
     pub fn set_modem(&mut self, channel: ChannelId, line: ModemLine, level: bool)
-        ensures { self.new ≡ with_chip (modem_on channel line level self.old.chip) self.old }
+        ensures { state A.Line.levels B.Line.levels self.new ≡ with_chip (modem_on channel line level self.old.chip) (state A.Line.levels B.Line.levels self.old) }
     {
         self.chip.set_modem(channel, line, level)
     }

@@ -78,9 +78,9 @@ struct Heard {
     all: u16,
 }
 
-// All words of a format on their way over a board.
+// All words of a format on their way over a board. A type that has a board asks nothing of its lines: its methods do.
 #[derive(Drop)]
-struct Run<A: Line, B: Line> {
+struct Run<A, B> {
     board: Board<A, B>,
     format: Format,
     heard: Heard,

@@ -95,6 +95,7 @@ impl<K: Purpose> Access<K> {
     }
 
     // Opens an access; a select above 7 opens nothing.
+    #[inline(always)]
     pub fn open(select: u8) -> Result<Access<K>, Refusal>
         ensures is { result ≡ access_opened select }
         ensures refusals { refused_by result ≡ opens_by select }

@@ -60,6 +60,7 @@ impl PoweredChip {
     }
 }
 
+// Accesses are inlined, so that a select that is known where the call stands costs nothing to look up.
 impl Chip {
     pub fn reset(&mut self)
         ensures { self.new ≡ chip_reset self.old }
@@ -69,6 +70,7 @@ impl Chip {
     }
 
     // Ends a read: it works now, on this chip.
+    #[inline(always)]
     pub fn end_read(&mut self, access: ReadAccess) -> Result<Reading, Refusal>
         ensures answers { result ≡ read_ended access self.old }
         ensures leaves { self.new ≡ after_read_ended access self.old }
@@ -79,6 +81,7 @@ impl Chip {
     }
 
     // Ends a write, with the byte to write: it works now, on this chip.
+    #[inline(always)]
     pub fn end_write(&mut self, access: WriteAccess, byte: u8) -> Option<WriteNote>
         ensures answers { result ≡ write_ended access self.old }
         ensures leaves { self.new ≡ after_write_ended access byte self.old }
@@ -89,6 +92,7 @@ impl Chip {
     }
 
     // A read that is opened and ended with nothing between.
+    #[inline(always)]
     pub fn read(&mut self, select: u8) -> Result<Reading, Refusal>
         ensures answers { result ≡ read_once select self.old }
         ensures leaves { self.new ≡ after_read_once select self.old }
@@ -99,6 +103,7 @@ impl Chip {
     }
 
     // A write that is opened and ended with nothing between.
+    #[inline(always)]
     pub fn write(&mut self, select: u8, byte: u8) -> Result<Option<WriteNote>, Refusal>
         ensures answers { result ≡ write_once select self.old }
         ensures leaves { self.new ≡ after_write_once select byte self.old }

@@ -1,15 +1,29 @@
 -- Lemmas on the lists of levels.
-use Rattle.std.proofs.Common.{◌≡◌, ℕ, ◌+◌, ◌%◌, ◌<◌, ◌≤◌, Bool, ◌&&◌, ◌⊎◌, List, [], ◌∷◌, ◌++◌, length, take, drop, set, sym, ap, ◌∙◌, inl, inr, append_assoc, append-nil, mod-eq_of_lt, arith}
+use Rattle.std.proofs.Common.{◌≡◌, ℕ, ◌+◌, ◌%◌, ◌<◌, ◌≤◌, Bool, ◌&&◌, ◌⊎◌, List, [], ◌∷◌, ◌++◌, length, get_or, take, drop, set, sym, refl, ap, ◌∙◌, inl, inr, append_assoc, append-nil, mod-eq_of_lt, arith}
 use native.Mathlib.Nat.{mod_self}
 use Rattle.std.proofs.Math.Bool.{and_comm}
 use Rattle.std.proofs.lemmas.Bool.{cases_lt}
 use Rattle.std.proofs.lemmas.List.Folds.{list_all-append}
 use Rattle.std.proofs.lemmas.List.{drop_more, take_more_set, drop-set-lt, take_all, drop_all, length-set, take-append-drop}
-use Rattle.line.specs.Line.{held, all_high}
+use Rattle.line.specs.Line.{leaves, held, all_high}
 use Rattle.line.specs.TableLine.{rotate}
+
+-- a joint: the second list answers to what leaves the first, and holds it
+pub leaves_append : (ys xs : List Bool) (l : Bool) → leaves (ys ++ xs) l ≡ leaves ys (leaves xs l)
+leaves_append [] xs l = refl
+leaves_append (y ∷ ys) xs l = refl
+
+pub held_append : (ys xs : List Bool) (l : Bool) → held (ys ++ xs) l ≡ held ys (leaves xs l) ++ held xs l
+held_append [] xs l = refl
+held_append (y ∷ ys) [] l = ap (λ zs. zs ++ (l ∷ [])) (append-nil ys) ∙ sym (append-nil (ys ++ (l ∷ [])))
+held_append (y ∷ ys) (x ∷ xs) l = append_assoc ys (x ∷ xs) (l ∷ []) ∙ sym (append_assoc ys (x ∷ []) (xs ++ (l ∷ [])))
 
 pub all_high_append : (xs ys : List Bool) → all_high (xs ++ ys) ≡ (all_high xs && all_high ys)
 all_high_append xs ys = list_all-append (λ l. l) xs ys
+
+-- a table whose place is h
+pub leaves_rotate : (h : ℕ) (xs : List Bool) (d l : Bool) → h < length xs → leaves (rotate h xs) l ≡ get_or xs h d
+leaves_rotate h xs d l lt = rw (drop_more xs h d)
 
 pub held_rotate : (h : ℕ) (xs : List Bool) (l : Bool) → h < length xs → held (rotate h xs) l ≡ rotate (h + 1) (set xs h l)
 held_rotate h xs l lt =

@@ -46,9 +46,9 @@ abbrev pub at : ℕ → List Received → Receiver → R
 at φ log rx = record { phase = φ; rx = rx; log = log }
 
 -- what a cycle does, by whether it ticks
-turn_phase : (x : Format) (D : ℕ) (l : Bool) (r : R) → r.phase < D → (b : Bool) → ltb (r.phase + 1) D ≡ b → (turn_r x l r b).phase < D
+turn_phase : (x : Format) (D : ℕ) (l : Bool) (r : R) → 0 < D → (b : Bool) → ltb (r.phase + 1) D ≡ b → (turn_r x l r b).phase < D
 turn_phase x D l r h true e = ltb-true (r.phase + 1) D e
-turn_phase x D l r h false e = omega arith
+turn_phase x D l r h false e = h
 
 turn_high : (x : Format) (r : R) → r.rx ≡ Hunting → (b : Bool) → ((turn_r x true r b).rx ≡ Hunting) × ((turn_r x true r b).log ≡ r.log)
 turn_high x r h true = (h, refl)
@@ -100,7 +100,7 @@ module _ (x : Format) (D : ℕ) where
   -- the phase stays below the divisor
   pub run_phase : (ls : List Bool) (r : R) → r.phase < D → (run x D ls r).phase < D
   run_phase [] r h = h
-  run_phase (l ∷ ls) r h = run_phase ls (cycle_r x D r l) (turn_phase x D l r h (ltb (r.phase + 1) D) refl)
+  run_phase (l ∷ ls) r h = run_phase ls (cycle_r x D r l) (turn_phase x D l r (omega arith) (ltb (r.phase + 1) D) refl)
 
   -- high levels leave a hunting receiver as it is
   pub cycle_high : (r : R) → r.rx ≡ Hunting → ((cycle_r x D r true).rx ≡ Hunting) × ((cycle_r x D r true).log ≡ r.log)

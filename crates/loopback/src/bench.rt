@@ -5,7 +5,7 @@ ghost use Rattle.dacia.specs.Access.{place_at, read_opened, opens_by};
 ghost use Rattle.terms.specs.declared.channel_id.ChannelId.TheVariants.{One, Two};
 ghost use Rattle.loopback.specs.Tally.{no_counts, report_to};
 
-use crate::names::{Level, Name, Note, Shown, Word};
+use crate::names::{Level, Name, Shown, Word};
 use crate::tally::Tally;
 use anyhow::anyhow;
 use board::board::Board;
@@ -21,6 +21,7 @@ use std::io;
 use terms::channel_id::ChannelId;
 use terms::channels::Channels;
 use terms::modem_line::ModemLine;
+use terms::or_none::OrNone;
 use terms::refusal::Refusal;
 use terms::report::{Report, ReportKind};
 
@@ -149,7 +150,7 @@ impl Bench {
             self.log.cycle,
             channel.number(),
             Word(byte),
-            Note(note)
+            OrNone(note)
         )?;
         Ok(())
     }
@@ -167,7 +168,7 @@ impl Bench {
             self.log.cycle,
             channel.number(),
             Shown { name, byte },
-            Note(reading.note)
+            OrNone(reading.note)
         )?;
         Ok(())
     }
@@ -189,7 +190,7 @@ impl Bench {
                     "{cycle:>5}  open and end a read at select {select}, {name}{}: {}, note {}",
                     place.channel.number(),
                     Shown { name, byte },
-                    Note(reading.note)
+                    OrNone(reading.note)
                 )
             }
             Err(refusal) => {

@@ -65,19 +65,6 @@ impl fmt::Display for Name {
     }
 }
 
-// A note, which an access can be without.
-#[derive(Clone, Copy)]
-pub(crate) struct Note<T>(pub(crate) Option<T>);
-
-impl<T: fmt::Display> fmt::Display for Note<T> {
-    fn fmt<W: fmt::Write>(&self, f: &mut fmt::Formatter<W>) -> fmt::Result {
-        match &self.0 {
-            Some(note) => write!(f, "{note}"),
-            None => f.write_str("none"),
-        }
-    }
-}
-
 // A byte in hexadecimal, with its character where it is a letter or a digit.
 #[derive(Clone, Copy)]
 pub(crate) struct Word(pub(crate) u8);

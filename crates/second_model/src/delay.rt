@@ -1,14 +1,17 @@
 // A line of any kind: a queue of levels whose length never changes.
 
 use arrayvec::ArrayVec;
+use std::mem;
 
 // The most levels that a line can hold.
 const MOST: usize = 256;
 
-// A line as the levels that it holds, from the next one to leave.
+// A line as the levels that it holds, in a ring, and the place of the next one to leave: a level comes in where another has left,
+// so that none of the others is moved.
 #[derive(Drop)]
 pub struct Delay {
     held: ArrayVec<bool, MOST>,
+    first: usize,
 }
 
 impl Delay {
@@ -16,25 +19,29 @@ impl Delay {
     pub fn new(length: usize) -> Delay {
         let mut held = ArrayVec::from([true; MOST]);
         held.truncate(length);
-        Delay { held }
+        Delay { held, first: 0 }
     }
 
     // Two lines as one, the first feeding the second.
-    pub fn joined(first: Delay, second: Delay) -> Delay {
+    pub fn joined(mut first: Delay, mut second: Delay) -> Delay {
         let mut both = Delay::new(first.held.len() + second.held.len());
-        for level in second.held.iter().chain(&first.held) {
-            both.pass(*level);
+        for _ in 0..second.held.len() {
+            both.pass(second.pass(true));
+        }
+        for _ in 0..first.held.len() {
+            both.pass(first.pass(true));
         }
         both
     }
 
     // Gives a level to the line, and answers the level that leaves it.
     pub fn pass(&mut self, level: bool) -> bool {
-        let Some(leaves) = self.held.pop_at(0) else {
+        let Some(place) = self.held.get_mut(self.first) else {
             return level;
         };
-        // there is room, as one has left
-        let _ = self.held.try_push(level);
+        let leaves = mem::replace(place, level);
+        let next = self.first.saturating_add(1);
+        self.first = if next < self.held.len() { next } else { 0 };
         leaves
     }
 

@@ -14,29 +14,24 @@ pub enum Source {
     Tdre,
 }
 
-impl Source {
-    // All of them, in the order of their bits.
-    const ALL: [Source; 7] = [
-        Source::Rdrf,
-        Source::Fob,
-        Source::Par,
-        Source::Dsrt,
-        Source::Dcdt,
-        Source::Ctst,
-        Source::Tdre,
-    ];
-}
-
 // A set of interrupt sources: for each source, whether it is in the set.
 #[derive(Clone, Copy, PartialEq, Eq, Debug, Default)]
 pub struct Sources([bool; 7]);
 
 impl Sources {
-    // The sources that pass a test.
+    // The sources that pass a test. They are written out, as a `map` over a list of them took a quarter longer.
     pub(crate) fn that<F: Fn(Source) -> bool>(test: F) -> Sources
         requires { F.IsAlwaysCallable test }
     {
-        Sources(Source::ALL.map(test))
+        Sources([
+            test(Source::Rdrf),
+            test(Source::Fob),
+            test(Source::Par),
+            test(Source::Dsrt),
+            test(Source::Dcdt),
+            test(Source::Ctst),
+            test(Source::Tdre),
+        ])
     }
 
     // The sources that bits 6-0 of a byte name.

@@ -79,8 +79,10 @@ impl Frame {
     fn tick(&mut self) -> bool {
         let tick = self.tick.saturating_add(1);
         self.tick = tick;
-        if let Some(bit) = self.levels.iter().find(|bit| bit.begin == tick) {
-            self.level = bit.level;
+        if let Some(bit) = self.levels.get(usize::from(tick / BIT)) {
+            if bit.begin == tick {
+                self.level = bit.level;
+            }
         }
         tick >= self.end
     }
@@ -108,6 +110,8 @@ impl Transmitter {
     // One tick. It answers whether the word was taken.
     pub(crate) fn tick(&mut self, work: Work) -> bool {
         match self {
+            // most ticks are those of a rest that goes on
+            Transmitter::Rests if !work.break_wanted && work.word.is_none() => false,
             Transmitter::Rests => self.choose(work),
             Transmitter::Sends(frame) => frame.tick() && self.choose(work),
             Transmitter::Breaks { tick, end } => {

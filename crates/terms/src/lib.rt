@@ -7,6 +7,7 @@ pub mod channel_id;
 pub mod channels;
 pub mod modem_line;
 pub mod note;
+pub mod or_none;
 pub mod refusal;
 pub mod register;
 pub mod report;

@@ -5,7 +5,6 @@ use crate::call::Call;
 use crate::counted::{CHANGES, EVENTS, Event};
 use crate::state::{State, Step};
 use dacia::access::Place;
-use std::alloc::{AllocError, Global};
 use terms::channel_id::ChannelId;
 use terms::channels::Channels;
 use terms::register::Register;
@@ -205,12 +204,17 @@ impl Counts {
         }
     }
 
-    // All counts, in the order in which they are printed.
-    pub(crate) fn table(&self, heap: Global) -> Result<Vec<Count>, AllocError> {
-        self.changes
+    // All counts, in the order in which they are printed. An array, since a list would ask for memory once all is played.
+    pub(crate) fn table(&self) -> [Count; 94] {
+        let counts = self
+            .changes
             .iter()
             .flat_map(|change| [change.begins, change.ends])
-            .chain(self.events.iter().map(|seen| seen.count))
-            .collect(heap)
+            .chain(self.events.iter().map(|seen| seen.count));
+        let mut table = [Count::new(""); 94];
+        for (place, count) in table.iter_mut().zip(counts) {
+            *place = count;
+        }
+        table
     }
 }

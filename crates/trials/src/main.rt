@@ -48,7 +48,12 @@ struct BadArguments;
 fn read_arguments(rt: &HostRuntime) -> anyhow::Result<Request> {
     let mut histories = HISTORIES;
     let mut seed = 0;
-    for (place, word) in env::args(rt)?.skip(1).enumerate() {
+    let mut words = env::args(rt)?;
+    // a program that was started under that name gives the help too
+    if words.next().is_some_and(|name| name.as_str() == "--help") {
+        return Ok(Request::Help);
+    }
+    for (place, word) in words.enumerate() {
         if word.as_str() == "--help" {
             return Ok(Request::Help);
         }
@@ -106,7 +111,7 @@ fn trials(rt: &HostRuntime, histories: u64, seed: u64) -> anyhow::Result<()> {
             eprintln!(rt; "{number} histories are played")?;
         }
     }
-    let table = counts.table(rt.alloc())?;
+    let table = counts.table();
     if let Some(count) = table.iter().find(|count| count.times == 0) {
         eprintln!(rt; "never seen: {}", count.name)?;
         return Err(anyhow!("something that is counted was never seen"));

@@ -1,5 +1,4 @@
-use Rattle.std.proofs.Common.{ap, ◌∙◌}
-use Rattle.board.specs.Board.{State, cycle_answer, after_cycle}
+use Rattle.board.specs.Board.{state}
 use Rattle.board.proofs.Boards.{cycled_parts}
 use Rattle.board.proofs.board.Board.cycle.Goals as goal
 
@@ -7,8 +6,7 @@ pub returns : goal.returns
 returns g c =
     let f = g.A.Line.levels in
     let h = g.B.Line.levels in
-    let s : State = record { chip = c.self.inside.chip; a = f c.self.inside.a; b = h c.self.inside.b } in
-    let done = cycled_parts s _ _ _ _ c.cycle.result c.cycle.new.self (f c.pass-rxd2.new.self) (h c.pass-rxd1.new.self)
+    let done = cycled_parts (state f h c.args.self.now) _ _ _ _ c.cycle.result c.cycle.new.self (f c.pass-rxd2.new.self) (h c.pass-rxd1.new.self)
     c.txd-txd1.ensures c.txd-txd2.ensures c.pass-rxd2.ensures.answers c.pass-rxd1.ensures.answers
     c.pass-rxd2.ensures.holds c.pass-rxd1.ensures.holds c.cycle.ensures in
-    record { answers = done.answers ∙ ap cycle_answer c.self.view_is; leaves = done.leaves ∙ ap after_cycle c.self.view_is }
+    record { answers = done.answers; leaves = done.leaves }
